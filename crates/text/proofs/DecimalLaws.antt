@@ -1,0 +1,102 @@
+-- Laws of numerals without leading zeros, over the base. Assumes nothing.
+use mathlib.Core.Path.{_≡_, refl, sym, _∙_, ap}
+use mathlib.Core.Bool.{Bool, true, false, cond}
+use mathlib.Core.List.{List, [], _∷_, _++_}
+use Prim.Native.Nat.{ℕ, zero, suc, _+_, _-_, _*_, _/_, _%_, _^_, _≤_, _<_, zero-le}
+use native.Mathlib.Nat.{le-refl, le-trans, lt-of-lt-of-le, div-lt-self, zero-div, zero-lt-suc, le-of-lt, not-le-of-lt, pow-le-pow-right, not-suc-le-zero, le-of-suc-le-suc, pow-suc, div-lt-iff-lt-mul, le-div-iff-mul-le, mod-eq-of-lt, pow-zero, one-mul}
+use native.Mathlib.Omega.{arith}
+use native.Mathlib.Numerals.{add-one, sub-one}
+use lib.ListN.{length}
+use lib.Dec.{ltb, leb}
+use borrow.Author.Tests.{lt-ltb, le-ltb, ltb-true, ltb-false, leb-true, leb-false}
+use Rattle.text.specs.Numerals.{digits, digitCountUpTo, digitCount, decimal, allDigits, value}
+use Rattle.text.proofs.DigitLaws.{length-digits, all-written, value-written}
+
+module _ (b : ℕ) (two : 1 < b) where
+  -- One digit less leaves a smaller number.
+  quotient-le : (v f : ℕ) → v ≤ suc f → v / b ≤ f
+  quotient-le zero f h = rw zero-div zero-le
+  quotient-le (suc v) f h = le-of-suc-le-suc (le-trans (div-lt-self (zero-lt-suc v) two) h)
+
+  -- Any bound that is large enough gives the same count.
+  enough : (f g v : ℕ) → v ≤ f → v ≤ g → digitCountUpTo f b v ≡ digitCountUpTo g b v
+  unfolding digitCountUpTo
+  enough zero zero v hf hg = refl
+  enough zero (suc g) v hf hg = rw (lt-ltb v b (omega arith))
+  enough (suc f) zero v hf hg = rw (lt-ltb v b (omega arith))
+  enough (suc f) (suc g) v hf hg =
+      ap (λ (n : ℕ). cond (ltb v b) 1 (suc n)) (enough f g (v / b) (quotient-le v f hf) (quotient-le v g hg))
+
+  pub count-one : (v : ℕ) → v < b → digitCount b v ≡ 1
+  unfolding digitCount digitCountUpTo
+  count-one zero h = refl
+  count-one (suc v) h = rw (lt-ltb (suc v) b h)
+
+  pub count-more : (v : ℕ) → b ≤ v → digitCount b v ≡ suc (digitCount b (v / b))
+  unfolding digitCount digitCountUpTo
+  count-more zero h = absurd (omega arith)
+  count-more (suc v) h =
+      rw (le-ltb (suc v) b h) (ap suc (enough v (suc v / b) (suc v / b) (quotient-le (suc v) v (le-refl (suc v))) (le-refl (suc v / b))))
+
+  pub count-pos : (v : ℕ) → 0 < digitCount b v
+  unfolding digitCount digitCountUpTo
+  count-pos zero = omega arith
+  count-pos (suc v) = go (ltb (suc v) b)
+    where
+      go : (t : Bool) → 0 < cond t 1 (suc (digitCountUpTo v b (suc v / b)))
+      go true = omega arith
+      go false = omega arith
+
+  -- By the last digit: what holds of numbers of one digit, and of v where it holds of v / b, holds of all.
+  by-digits : (P : ℕ → Type 0) → ((v : ℕ) → v < b → P v) → ((v : ℕ) → b ≤ v → P (v / b) → P v) → (v : ℕ) → P v
+  by-digits P one more v = go v v (le-refl v)
+    where
+      go : (f v : ℕ) → v ≤ f → P v
+      go zero v h = one v (omega arith)
+      go (suc f) v h = test (ltb v b) refl (go f (v / b) (quotient-le v f h))
+        where
+          test : (t : Bool) → ltb v b ≡ t → P (v / b) → P v
+          test true e ih = one v (ltb-true v b e)
+          test false e ih = more v (ltb-false v b e) ih
+
+  -- The count is the least that holds the number: v is below base ^ count, and, but for 0, not below base ^ (count - 1), so the first
+  -- digit is not 0.
+  pub count-holds : (v : ℕ) → v < b ^ digitCount b v
+  count-holds = by-digits (λ v. v < b ^ digitCount b v)
+      (λ v h. rw (count-one v h, pow-suc b 0, pow-zero, one-mul) h)
+      (λ v h ih. rw (count-more v h, pow-suc) (div-lt-iff-lt-mul (le-of-lt two) .0 ih))
+
+  pub count-least : (v : ℕ) → 0 < v → b ^ (digitCount b v - 1) ≤ v
+  count-least = by-digits (λ v. 0 < v → b ^ (digitCount b v - 1) ≤ v)
+      (λ v h pos. rw (count-one v h, pow-zero) pos)
+      (λ v h ih pos.
+      let m = digitCount b (v / b) in
+      let some = count-pos (v / b) in
+      let shorter : suc m - 1 ≡ suc (m - 1) = omega arith in
+      let quotient-pos = le-div-iff-mul-le (le-of-lt two) .1 (rw one-mul h) in
+      rw (count-more v h, shorter, pow-suc) (le-div-iff-mul-le (le-of-lt two) .0 (ih quotient-pos)))
+
+  pub count-le : (k v : ℕ) → v < b ^ suc k → digitCount b v ≤ suc k
+  count-le k zero h = rw (count-one 0 (omega arith)) (omega arith)
+  count-le k (suc v) h = go (leb (digitCount b (suc v)) (suc k)) refl
+    where
+      go : (t : Bool) → leb (digitCount b (suc v)) (suc k) ≡ t → digitCount b (suc v) ≤ suc k
+      go true e = leb-true _ _ e
+      go false e =
+          let long = leb-false (digitCount b (suc v)) (suc k) e in
+          absurd (not-le-of-lt h (le-trans (pow-le-pow-right (le-of-lt two) (omega arith)) (count-least (suc v) (zero-lt-suc v))))
+
+-- ---- decimals
+
+pub length-decimal : (v : ℕ) → length (decimal v) ≡ digitCount 10 v
+unfolding decimal
+length-decimal v = length-digits 10 (digitCount 10 v) v
+
+pub all-decimal : (v : ℕ) → allDigits 10 (decimal v) ≡ true
+unfolding decimal
+all-decimal v = all-written 10 (omega arith) (omega arith) (digitCount 10 v) v
+
+-- A decimal reads back as its number.
+pub value-decimal : (v : ℕ) → value 10 (decimal v) ≡ v
+unfolding decimal
+value-decimal v = value-written 10 (omega arith) (omega arith) (digitCount 10 v) v ∙ mod-eq-of-lt (count-holds 10 (omega arith) v)

@@ -1,0 +1,124 @@
+-- Laws of numerals, over the base and the number of digits. Assumes nothing.
+use mathlib.Core.Path.{_≡_, refl, sym, _∙_, ap}
+use mathlib.Core.Bool.{Bool, true, false, cond, _&&_}
+use mathlib.Core.List.{List, [], _∷_, _++_, append-assoc, append-nil}
+use Prim.Native.Nat.{ℕ, zero, suc, _+_, _-_, _*_, _/_, _%_, _^_, _≤_, _<_, zero-le}
+use native.Mathlib.Nat.{add-zero, add-suc, zero-add, zero-mul, pow-zero, pow-suc, pow-succ', mod-lt, add-mul, mul-assoc, mul-comm, add-assoc, mul-one, mod-one, div-one, div-div-eq-div-mul, one-le-pow, pow-le-pow-right, lt-of-lt-of-le, lt-of-le-of-lt, le-trans, one-mul}
+use native.Mathlib.Omega.{arith}
+use native.Mathlib.Numerals.{add-one}
+use lib.Arith.{mod-mul, digits-lt, digits-div, digits-mod}
+use lib.ListN.{length, length-append, getD, drop, drop-of-length-le}
+use lib.Seq.{drop-cons}
+use lib.Dec.{ltb, leb}
+use borrow.Author.Tests.{lt-ltb, le-ltb, le-leb, lt-leb, ltb-true, ltb-false}
+use Rattle.text.specs.declared.Numeral.{Numeral}
+use Rattle.text.specs.declared.Numeral.the-variants.{Value, NotDigits}
+use Rattle.text.specs.Numerals.{digit, digitValue, digits, allDigits, valueAfter, value, numeralAfter, numeral}
+use Rattle.text.proofs.Truth.{and-left, and-right, cond-and}
+
+-- ---- one digit
+
+-- What is written as a digit is read as that digit.
+pub digit-back : (v : ℕ) → v < 16 → digitValue (digit v) ≡ v
+digit-back v h = go (ltb v 10) refl
+  where
+    go : (t : Bool) → ltb v 10 ≡ t → digitValue (cond t (48 + v) (55 + v)) ≡ v
+    go true e =
+        let low : v < 10 = ltb-true v 10 e in
+        rw (le-leb 48 (48 + v) (omega arith), le-leb (48 + v) 57 (omega arith)) (omega arith)
+    go false e =
+        let high : 10 ≤ v = ltb-false v 10 e in
+        rw (le-leb 48 (55 + v) (omega arith), lt-leb (55 + v) 57 (omega arith), le-leb 65 (55 + v) (omega arith), le-leb (55 + v) 70 (omega arith))
+        (omega arith)
+
+pub digit-lt : (v : ℕ) → v < 16 → digit v < 128
+digit-lt v h = go (ltb v 10)
+  where
+    go : (t : Bool) → cond t (48 + v) (55 + v) < 128
+    go true = omega arith
+    go false = omega arith
+
+-- ---- the digits that are written
+
+pub length-digits : (b k v : ℕ) → length (digits b k v) ≡ k
+unfolding digits
+length-digits b zero v = refl
+length-digits b (suc k) v = length-append (digits b k (v / b)) _ ∙ add-one (length (digits b k (v / b))) ∙ ap suc (length-digits b k (v / b))
+
+module _ (b : ℕ) (some : 0 < b) where
+  power-pos : (k : ℕ) → 0 < b ^ k
+  power-pos k = one-le-pow k b some
+
+  -- The digits in two parts.
+  pub digits-split : (j k v : ℕ) → digits b (j + k) v ≡ digits b j (v / b ^ k) ++ digits b k (v % b ^ k)
+  unfolding digits
+  digits-split j zero v = rw (add-zero, pow-zero, div-one, append-nil)
+  digits-split j (suc k) v =
+      let low = mod-mul v (power-pos k) some in
+      let small = mod-lt v some in
+      rw (add-suc, digits, digits-split j k (v / b), append-assoc, pow-suc, low, digits-div (v / b % b ^ k) small, digits-mod (v / b % b ^ k) small, div-div-eq-div-mul, mul-comm b (b ^ k))
+
+  module _ (few : b ≤ 16) where
+    low-digit : (v : ℕ) → digitValue (digit (v % b)) ≡ v % b
+    low-digit v = digit-back (v % b) (lt-of-lt-of-le (mod-lt v some) few)
+
+    -- Written bytes are digits.
+    pub all-digits : (k v : ℕ) (s : List ℕ) → allDigits b (digits b k v ++ s) ≡ allDigits b s
+    unfolding digits allDigits
+    all-digits zero v s = refl
+    all-digits (suc k) v s =
+        rw append-assoc
+        (all-digits k (v / b) (digit (v % b) ∷ s) ∙ rw (low-digit v, lt-ltb (v % b) b (mod-lt v some)))
+
+    -- What is written reads back, modulo base ^ count.
+    pub value-digits : (k v a : ℕ) (s : List ℕ) → valueAfter b a (digits b k v ++ s) ≡ valueAfter b (a * b ^ k + v % b ^ k) s
+    unfolding digits valueAfter
+    value-digits zero v a s = rw (pow-zero, mul-one, mod-one, add-zero)
+    value-digits (suc k) v a s =
+        ap (λ (l : List ℕ). valueAfter b a l) (append-assoc (digits b k (v / b)) _ s)
+        ∙ value-digits k (v / b) a (digit (v % b) ∷ s)
+        ∙ rw (low-digit v, pow-suc, mod-mul v (power-pos k) some, add-mul, mul-assoc, add-assoc)
+
+    pub all-written : (k v : ℕ) → allDigits b (digits b k v) ≡ true
+    unfolding allDigits
+    all-written k v = rw (← append-nil (digits b k v)) (all-digits k v [])
+
+    pub value-written : (k v : ℕ) → value b (digits b k v) ≡ v % b ^ k
+    unfolding valueAfter
+    value-written k v = rw (← append-nil (digits b k v)) (value-digits k v 0 [] ∙ rw (zero-mul, zero-add))
+
+-- ---- the digits that are read
+
+-- Digits stand for a number below base ^ count.
+pub value-after-lt : (b a m : ℕ) (s : List ℕ) → allDigits b s ≡ true → a < m → valueAfter b a s < m * b ^ length s
+unfolding allDigits valueAfter
+value-after-lt b a m [] e h = rw (pow-zero, mul-one) h
+value-after-lt b a m (c ∷ s) e h =
+    let d = ltb-true (digitValue c) b (and-left (ltb (digitValue c) b) (allDigits b s) e) in
+    rw (pow-succ', ← mul-assoc)
+    (value-after-lt b (a * b + digitValue c) (m * b) s (and-right (ltb (digitValue c) b) (allDigits b s) e) (digits-lt h d))
+
+pub value-lt : (b : ℕ) (s : List ℕ) → allDigits b s ≡ true → value b s < b ^ length s
+value-lt b s e = rw one-mul at (value-after-lt b 0 1 s e (omega arith))
+
+-- A turn of the reader: one more digit, or none.
+numeral-cons : (b a c : ℕ) (s : List ℕ) → numeralAfter b a (c ∷ s) ≡ cond (ltb (digitValue c) b) (numeralAfter b (a * b + digitValue c) s) NotDigits
+unfolding allDigits valueAfter
+numeral-cons b a c s = cond-and (ltb (digitValue c) b) (allDigits b s) _ _
+
+module _ (b a i : ℕ) (s : List ℕ) (h : i < length s) where
+  pub read-more : (d : ℕ) → d ≡ digitValue (getD s i 0) → d < b → numeralAfter b (a * b + d) (drop (i + 1) s) ≡ numeralAfter b a (drop i s)
+  read-more d e k = rw (add-one i, drop-cons s i 0 h, numeral-cons, ← e, lt-ltb d b k)
+
+  pub read-stop : (d : ℕ) → d ≡ digitValue (getD s i 0) → b ≤ d → NotDigits ≡ numeralAfter b a (drop i s)
+  read-stop d e k = rw (drop-cons s i 0 h, numeral-cons, ← e, le-ltb d b k)
+
+  -- The number read so far stays below base ^ count, and so within the whole's bound.
+  pub read-fits : (d m : ℕ) → a < b ^ i → d < b → b ^ length s ≤ m → (a * b + d < b ^ (i + 1)) × (b ^ (i + 1) ≤ m)
+  read-fits d m ha hd hm =
+      (rw (add-one, pow-suc) (digits-lt ha hd), le-trans (rw add-one (pow-le-pow-right (lt-of-le-of-lt zero-le hd) h)) hm)
+
+-- No byte is left.
+pub read-end : (b a i : ℕ) (s : List ℕ) → length s ≤ i → Value a ≡ numeralAfter b a (drop i s)
+unfolding allDigits valueAfter
+read-end b a i s h = rw (drop-of-length-le s h)

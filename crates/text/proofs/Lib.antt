@@ -1,0 +1,8 @@
+-- Laws that belong to no one function.
+pub mod Truth
+pub mod PutLaws
+pub mod DigitLaws
+pub mod TableLaws
+pub mod WriteLaws
+pub mod DecimalLaws
+pub mod LineLaws

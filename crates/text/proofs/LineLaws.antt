@@ -1,0 +1,122 @@
+-- Laws of the lines of a text. Assumes nothing.
+use mathlib.Core.Path.{_≡_, refl, sym, _∙_, ap}
+use mathlib.Core.Bool.{Bool, true, false, cond}
+use mathlib.Core.List.{List, [], _∷_, _++_}
+use Prim.Native.Nat.{ℕ, zero, suc, _+_, _-_, _≤_, _<_}
+use native.Mathlib.Nat.{add-zero, add-suc, suc-add, zero-add, not-suc-le-zero, le-of-suc-le-suc}
+use native.Mathlib.Omega.{arith}
+use native.Mathlib.Numerals.{add-one}
+use lib.ListN.{length, getD, take, drop, length-drop, drop-of-length-le}
+use lib.Seq.{drop-cons, drop-drop}
+use lib.Dec.{eqb, ltb}
+use borrow.Author.Tests.{eq-eqb, ne-eqb, eqb-true, eqb-false}
+use Rattle.text.specs.Lines.{LF, lines, inFront, firstLine, unlines}
+
+-- No byte of the list is an LF.
+unfoldable pub NoLF : List ℕ → Type 0
+NoLF [] = Unit {0}
+NoLF (c ∷ s) = (c ≡ LF → ⊥) × NoLF s
+
+-- None of the lines has one.
+unfoldable pub NoneLF : List (List ℕ) → Type 0
+NoneLF [] = Unit {0}
+NoneLF (l ∷ ls) = NoLF l × NoneLF ls
+
+pub lines-line : (l s : List ℕ) → NoLF l → lines (l ++ (LF ∷ s)) ≡ l ∷ lines s
+unfolding NoLF lines
+lines-line [] s h = refl
+lines-line (c ∷ l) s h = rw (ne-eqb c LF (h .0), lines-line l s (h .1))
+
+pub lines-last : (l : List ℕ) → NoLF l → 0 < length l → lines l ≡ l ∷ []
+unfolding NoLF lines
+lines-last [] n h = absurd (not-suc-le-zero h)
+lines-last (c ∷ []) n h = rw (ne-eqb c LF (n .0))
+lines-last (c ∷ d ∷ l) n h = rw (ne-eqb c LF (n .0), lines-last (d ∷ l) (n .1) (omega arith))
+
+-- What is written as lines reads as those lines.
+pub lines-unlines : (ls : List (List ℕ)) → NoneLF ls → lines (unlines ls) ≡ ls
+unfolding NoneLF unlines lines
+lines-unlines [] h = refl
+lines-unlines (l ∷ ls) h = lines-line l (unlines ls) (h .0) ∙ ap (λ (r : List (List ℕ)). l ∷ r) (lines-unlines ls (h .1))
+
+-- ---- the first line
+
+-- Where it ends: at an LF or at the end of the text.
+first-lf : (c : ℕ) (s : List ℕ) → c ≡ LF → firstLine (c ∷ s) ≡ []
+unfolding firstLine
+first-lf c s e = rw (eq-eqb c LF e)
+
+first-more : (c : ℕ) (s : List ℕ) → (c ≡ LF → ⊥) → firstLine (c ∷ s) ≡ c ∷ firstLine s
+unfolding firstLine
+first-more c s e = rw (ne-eqb c LF e)
+
+pub first-le : (s : List ℕ) → length (firstLine s) ≤ length s
+unfolding firstLine
+first-le [] = omega arith
+first-le (c ∷ s) = go (eqb c LF) (first-le s)
+  where
+    go : (t : Bool) → length (firstLine s) ≤ length s → length (cond t [] (c ∷ firstLine s)) ≤ suc (length s)
+    go true h = omega arith
+    go false h = omega arith
+
+-- It is a front of the text.
+pub first-front : (s : List ℕ) → take (length (firstLine s)) s ≡ firstLine s
+unfolding firstLine
+first-front [] = refl
+first-front (c ∷ s) = go (eqb c LF) (first-front s)
+  where
+    go : (t : Bool) → take (length (firstLine s)) s ≡ firstLine s → take (length (cond t [] (c ∷ firstLine s))) (c ∷ s) ≡ cond t [] (c ∷ firstLine s)
+    go true h = refl
+    go false h = ap (λ (l : List ℕ). c ∷ l) h
+
+-- An LF follows it, or the text ends.
+pub first-stop : (s : List ℕ) → length (firstLine s) < length s → getD s (length (firstLine s)) 0 ≡ LF
+unfolding firstLine
+first-stop [] h = absurd (not-suc-le-zero h)
+first-stop (c ∷ s) h = go (eqb c LF) refl (first-stop s) h
+  where
+    go : (t : Bool) → eqb c LF ≡ t → (length (firstLine s) < length s → getD s (length (firstLine s)) 0 ≡ LF)
+        → length (cond t [] (c ∷ firstLine s)) < suc (length s) → getD (c ∷ s) (length (cond t [] (c ∷ firstLine s))) 0 ≡ LF
+    go true e ih h = eqb-true c LF e
+    go false e ih h = ih (le-of-suc-le-suc h)
+
+-- The lines of a text that has bytes: the first, and those after its LF.
+pub lines-first : (s : List ℕ) → 0 < length s → lines s ≡ firstLine s ∷ lines (drop (suc (length (firstLine s))) s)
+unfolding firstLine lines
+lines-first [] h = absurd (not-suc-le-zero h)
+lines-first (c ∷ []) h = go (eqb c LF)
+  where
+    go : (t : Bool) → cond t ([] ∷ []) ((c ∷ []) ∷ []) ≡ cond t [] (c ∷ []) ∷ lines (drop (length (cond t [] (c ∷ []))) [])
+    go true = refl
+    go false = refl
+lines-first (c ∷ d ∷ s) h = go (eqb c LF) (lines-first (d ∷ s) (omega arith))
+  where
+    go : (t : Bool) → lines (d ∷ s) ≡ firstLine (d ∷ s) ∷ lines (drop (length (firstLine (d ∷ s))) s)
+        → cond t ([] ∷ lines (d ∷ s)) (inFront c (lines (d ∷ s)))
+        ≡ cond t [] (c ∷ firstLine (d ∷ s)) ∷ lines (drop (length (cond t [] (c ∷ firstLine (d ∷ s)))) (d ∷ s))
+    go true e = refl
+    go false e = ap (inFront c) e
+
+-- ---- by places in the text
+
+-- The lines from a place on: the line there, which ends at e, and those after its LF.
+pub lines-at : (s : List ℕ) (p e : ℕ) → p < length s → e ≡ p + length (firstLine (drop p s))
+    → lines (drop p s) ≡ take (e - p) (drop p s) ∷ lines (drop (e + 1) s)
+lines-at s p e h q =
+    let n = length (firstLine (drop p s)) in
+    let size : e - p ≡ n = omega arith in
+    let next : e + 1 ≡ p + suc n = omega arith in
+    lines-first (drop p s) (rw length-drop (omega arith)) ∙ rw (size, next, first-front, drop-drop)
+
+-- The search for a line's end: it goes past a byte that is no LF, and stops at an LF and at the end of the text.
+module _ (s : List ℕ) (p : ℕ) where
+  pub end-more : p < length s → (getD s p 0 ≡ LF → ⊥)
+      → p + 1 + length (firstLine (drop (p + 1) s)) ≡ p + length (firstLine (drop p s))
+  end-more h other = rw (add-one p, drop-cons s p 0 h, first-more _ _ other) (omega arith)
+
+  pub end-here : p < length s → getD s p 0 ≡ LF → p ≡ p + length (firstLine (drop p s))
+  end-here h here = rw (drop-cons s p 0 h, first-lf _ _ here) (omega arith)
+
+  pub end-past : length s ≤ p → p ≡ p + length (firstLine (drop p s))
+  unfolding firstLine
+  end-past h = rw (drop-of-length-le s h) (omega arith)

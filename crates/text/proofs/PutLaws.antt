@@ -1,0 +1,50 @@
+-- Laws of bytes laid at a place. Assumes nothing.
+use mathlib.Core.Path.{_≡_, refl, sym, _∙_, ap}
+use mathlib.Core.List.{List, [], _∷_, _++_, append-nil}
+use mathlib.Core.Logic.{_≢_}
+use Prim.Native.Nat.{ℕ, zero, suc, _+_, _≤_, _<_}
+use native.Mathlib.Nat.{add-zero, add-suc, suc-add, zero-add}
+use native.Mathlib.Omega.{arith}
+use lib.ListN.{length, take, drop, set}
+use lib.Seq.{sets, sets-eq, length-sets, set-comm}
+use Rattle.text.specs.Place.{put}
+
+pub put-nil : (d : List ℕ) (at : ℕ) → put d at [] ≡ d
+unfolding put
+put-nil d at = refl
+
+pub put-one : (d : List ℕ) (at x : ℕ) → put d at (x ∷ []) ≡ set d at x
+unfolding put
+put-one d at x = refl
+
+pub length-put : (d : List ℕ) (at : ℕ) (xs : List ℕ) → length (put d at xs) ≡ length d
+unfolding put
+length-put d at xs = length-sets d at xs
+
+-- One piece after another.
+pub put-append : (d : List ℕ) (at : ℕ) (xs ys : List ℕ) → put d at (xs ++ ys) ≡ put (put d at xs) (at + length xs) ys
+unfolding put
+put-append d at [] ys = rw add-zero
+put-append d at (x ∷ xs) ys = rw (add-suc, ← suc-add) (put-append (set d at x) (suc at) xs ys)
+
+-- A store before a piece, in either order.
+set-put : (d : List ℕ) (i x at : ℕ) (ys : List ℕ) → i < at → set (put d at ys) i x ≡ put (set d i x) at ys
+unfolding put
+set-put d i x at [] h = refl
+set-put d i x at (y ∷ ys) h =
+    set-put (set d at y) i x (suc at) ys (omega arith)
+    ∙ ap (λ (e : List ℕ). put e (suc at) ys) (set-comm d at i y x (omega arith))
+
+-- A piece laid before another that already lies there: what a writer does that begins at the end.
+pub put-before : (d : List ℕ) (at n : ℕ) (xs ys : List ℕ) → length xs ≡ n → put (put d (at + n) ys) at xs ≡ put d at (xs ++ ys)
+unfolding put
+put-before d at n [] ys e = rw (← e, add-zero)
+put-before d at n (x ∷ xs) ys e =
+    ap (λ (s : List ℕ). put s (suc at) xs) (set-put d at x (at + n) ys (omega arith))
+    ∙ ap (λ (k : ℕ). put (put (set d at x) k ys) (suc at) xs) (ap (λ (k : ℕ). at + k) (sym e) ∙ add-suc at (length xs) ∙ sym (suc-add at (length xs)))
+    ∙ put-before (set d at x) (suc at) (length xs) xs ys refl
+
+-- A text laid at the front that has room.
+pub put-front : (d xs : List ℕ) → length xs ≤ length d → put d 0 xs ≡ xs ++ drop (length xs) d
+unfolding put
+put-front d xs h = sets-eq xs d 0 (rw zero-add h) ∙ rw zero-add

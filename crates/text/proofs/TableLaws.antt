@@ -1,0 +1,23 @@
+-- A table that is filled from the front holds its rule at each entry filled so far. Assumes nothing.
+use mathlib.Core.Path.{_≡_, refl, _∙_}
+use mathlib.Core.Bool.{Bool, true, false}
+use mathlib.Core.List.{List}
+use Prim.Native.Nat.{ℕ, _+_, _≤_, _<_}
+use native.Mathlib.Omega.{arith}
+use lib.ListN.{length, getD, set}
+use lib.Seq.{getD-set-same, getD-set-other}
+use lib.Arith.{lt-of-le-ne}
+use lib.Dec.{eqb}
+use borrow.Author.Tests.{eqb-true, eqb-false}
+
+le-of-lt-add-one : {k n : ℕ} → k < n + 1 → k ≤ n
+le-of-lt-add-one h = omega arith
+
+-- One entry more: x at n.
+pub filled-more : (rule : ℕ → ℕ) (t : List ℕ) (n x : ℕ) → n < length t → x ≡ rule n → ((k : ℕ) → k < n → getD t k 0 ≡ rule k)
+    → (k : ℕ) → k < n + 1 → getD (set t n x) k 0 ≡ rule k
+filled-more rule t n x room e before k h = go (eqb k n) refl
+  where
+    go : (same : Bool) → eqb k n ≡ same → getD (set t n x) k 0 ≡ rule k
+    go true q = rw (eqb-true k n q, getD-set-same t n x 0 room) e
+    go false q = let other = eqb-false k n q in getD-set-other t n k x 0 other ∙ before k (lt-of-le-ne (le-of-lt-add-one h) other)

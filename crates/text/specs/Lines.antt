@@ -1,0 +1,29 @@
+-- The lines of a text.
+use Prim.Native.Nat.{ℕ}
+use mathlib.Core.Bool.{Bool, cond}
+use mathlib.Core.List.{List, [], _∷_, _++_}
+use lib.Dec.{eqb}
+
+-- The byte that ends a line.
+abbrev pub LF : ℕ
+LF = 10
+
+-- A byte in front of the first line.
+abbrev pub inFront : ℕ → List (List ℕ) → List (List ℕ)
+inFront c [] = (c ∷ []) ∷ []
+inFront c (l ∷ ls) = (c ∷ l) ∷ ls
+
+-- The lines of a text, without their LF. "The last LF may be missing": what follows the last LF is a line only if it has bytes.
+unfoldable pub lines : List ℕ → List (List ℕ)
+lines [] = []
+lines (c ∷ s) = cond (eqb c LF) ([] ∷ lines s) (inFront c (lines s))
+
+-- The bytes before the first LF, or all where there is none.
+unfoldable pub firstLine : List ℕ → List ℕ
+firstLine [] = []
+firstLine (c ∷ s) = cond (eqb c LF) [] (c ∷ firstLine s)
+
+-- The text of lines: an LF after each, the last too.
+unfoldable pub unlines : List (List ℕ) → List ℕ
+unlines [] = []
+unlines (l ∷ ls) = l ++ (LF ∷ unlines ls)

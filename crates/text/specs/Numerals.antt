@@ -1,0 +1,76 @@
+-- Numerals in a base from 2 to 16, over the number of their digits.
+use Prim.Native.Nat.{ℕ, zero, suc, _+_, _-_, _*_, _/_, _%_, _<_}
+use mathlib.Core.Path.{_≡_}
+use mathlib.Core.Bool.{Bool, true, false, cond, _&&_}
+use mathlib.Core.List.{List, [], _∷_, _++_}
+use lib.Dec.{ltb, leb}
+use lib.ListN.{getD}
+use Rattle.text.specs.declared.Numeral.{Numeral}
+use Rattle.text.specs.declared.Numeral.the-variants.{Value, NotDigits}
+
+-- ---- one digit
+
+-- The byte of a digit from 0 to 15: `0` to `9`, then capitals `A` to `F`.
+abbrev pub digit : ℕ → ℕ
+digit v = cond (ltb v 10) (48 + v) (55 + v)
+
+-- What a byte is worth as a digit, letters of either case; 16 where it is no digit.
+abbrev pub digitValue : ℕ → ℕ
+digitValue c =
+    cond (leb 48 c && leb c 57) (c - 48)
+    (cond (leb 65 c && leb c 70) (c - 55)
+    (cond (leb 97 c && leb c 102) (c - 87)
+    16))
+
+-- ---- many digits
+
+-- The last k digits of v in base b, the most significant first.
+unfoldable pub digits : ℕ → ℕ → ℕ → List ℕ
+digits b zero v = []
+digits b (suc k) v = digits b k (v / b) ++ (digit (v % b) ∷ [])
+
+-- Each of these bytes is a digit of base b.
+unfoldable pub allDigits : ℕ → List ℕ → Bool
+allDigits b [] = true
+allDigits b (c ∷ cs) = ltb (digitValue c) b && allDigits b cs
+
+-- The number that digits in base b stand for, where those before them stand for `acc`.
+unfoldable pub valueAfter : ℕ → ℕ → List ℕ → ℕ
+valueAfter b acc [] = acc
+valueAfter b acc (c ∷ cs) = valueAfter b (acc * b + digitValue c) cs
+
+-- The number that digits in base b stand for.
+abbrev pub value : ℕ → List ℕ → ℕ
+value b cs = valueAfter b 0 cs
+
+-- What reading digits of base b answers, where those before them stand for `acc`.
+abbrev pub numeralAfter : ℕ → ℕ → List ℕ → Numeral
+numeralAfter b acc cs = cond (allDigits b cs) (Value (valueAfter b acc cs)) NotDigits
+
+abbrev pub numeral : ℕ → List ℕ → Numeral
+numeral b cs = numeralAfter b 0 cs
+
+-- ---- no leading zeros
+
+-- How many digits v has in base b, the leading zeros left out: one at least. The first argument bounds them.
+unfoldable pub digitCountUpTo : ℕ → ℕ → ℕ → ℕ
+digitCountUpTo zero b v = 1
+digitCountUpTo (suc f) b v = let more = suc (digitCountUpTo f b (v / b)) in cond (ltb v b) 1 more
+
+-- A number has no more than v digits, but for 0, which has one.
+unfoldable pub digitCount : ℕ → ℕ → ℕ
+digitCount b v = digitCountUpTo v b v
+
+-- "in decimal": v without leading zeros.
+unfoldable pub decimal : ℕ → List ℕ
+decimal v = digits 10 (digitCount 10 v) v
+
+-- ---- tables of digits, filled once and lent
+
+-- Entry c is what the byte c is worth as a digit.
+abbrev pub DigitValues : List ℕ → Type 0
+DigitValues t = (c : ℕ) → c < 256 → getD t c 0 ≡ digitValue c
+
+-- Entry n has the two hexadecimal digits of the byte n, the first of them in its low byte.
+abbrev pub HexPairs : List ℕ → Type 0
+HexPairs t = (n : ℕ) → n < 256 → getD t n 0 ≡ digit (n / 16) + digit (n % 16) * 256

@@ -1,0 +1,117 @@
+// Digits of a base from 2 to 16, one by one and by tables that are filled once and lent.
+use crate::Numeral;
+ghost use mathlib.Core.Path.{_≡_};
+ghost use Prim.Native.Nat.{_+_, _*_, _/_, _%_, _^_, _≤_, _<_};
+ghost use lib.ListN.{length};
+ghost use Rattle.text.specs.Numerals.{digit as digitOf, digitValue, digits, numeral, DigitValues, HexPairs};
+ghost use Rattle.text.specs.Place.{put};
+
+// The byte of a digit from 0 to 15, in capitals.
+pub fn digit(v: u8) -> u8
+    requires { ⌜ v < 16 ⌝ }
+    ensures { λ r. ⌜ r ≡ digitOf v ⌝ }
+{
+    if v < 10 { 48 + v } else { 55 + v }
+}
+
+// What a byte is worth as a digit, letters of either case; 16 where it is none.
+pub fn digit_value(c: u8) -> u8
+    ensures { λ r. ⌜ r ≡ digitValue c ⌝ }
+{
+    match c {
+        48..=57 => c - 48,
+        65..=70 => c - 55,
+        97..=102 => c - 87,
+        _ => 16,
+    }
+}
+
+// The table of what each byte is worth as a digit.
+pub fn digit_values() -> [u8; 256]
+    ensures { λ r. ⌜ DigitValues r ⌝ }
+{
+    let mut table = [0u8; 256];
+    let mut c = 0;
+    while c < 256 {
+        table[c] = digit_value((c % 256) as u8);
+        c += 1;
+    }
+    table
+}
+
+// The table of the two hexadecimal digits of each byte.
+pub fn hex_pairs() -> [u16; 256]
+    ensures { λ r. ⌜ HexPairs r ⌝ }
+{
+    let mut table = [0u16; 256];
+    let mut n = 0;
+    while n < 256 {
+        table[n] = hex_pair((n % 256) as u8);
+        n += 1;
+    }
+    table
+}
+
+// The two hexadecimal digits of a byte, the first in the low byte.
+fn hex_pair(n: u8) -> u16
+    ensures { λ r. ⌜ r ≡ digitOf (n / 16) + digitOf (n % 16) * 256 ⌝ }
+{
+    digit(n / 16) as u16 + digit(n % 16) as u16 * 256
+}
+
+// Lays the k low hexadecimal digits of v at a place.
+pub fn put_hex(out: &mut [u8], at: usize, k: usize, v: u64, pairs: &[u16; 256])
+    requires { ⌜ (at + k ≤ length (now out)) × HexPairs (now pairs) ⌝ }
+    ensures { λ _. ⌜ now (out .exit) ≡ put (now (out .entry)) at (digits 16 k v) ⌝ }
+{
+    let mut left = k;
+    let mut rest = v;
+    while 2 <= left {
+        left -= 2;
+        put_pair(out, at + left, (rest % 256) as usize, pairs);
+        rest = rest / 256;
+    }
+    if left == 1 {
+        out[at] = digit((rest % 16) as u8);
+    }
+}
+
+// Lays the two hexadecimal digits of a byte at a place.
+pub fn put_pair(out: &mut [u8], at: usize, n: usize, pairs: &[u16; 256])
+    requires { ⌜ (at + 2 ≤ length (now out)) × ((n < 256) × HexPairs (now pairs)) ⌝ }
+    ensures { λ _. ⌜ now (out .exit) ≡ put (now (out .entry)) at (digits 16 2 n) ⌝ }
+{
+    let pair = pairs[n];
+    out[at] = (pair % 256) as u8;
+    out[at + 1] = (pair / 256 % 256) as u8;
+}
+
+// Reads all bytes of a part as digits of a base.
+pub fn read_digits(s: &[u8], base: u64, values: &[u8; 256]) -> Numeral
+    requires { ⌜ (base ≤ 16) × ((base ^ length (now s) ≤ 2 ^ 64) × DigitValues (now values)) ⌝ }
+    ensures { λ r. ⌜ r ≡ numeral base (now (s .entry)) ⌝ }
+{
+    let mut acc: u64 = 0;
+    let mut i = 0;
+    while i < s.len() {
+        let d = wide(values[index(s[i])]);
+        if base <= d {
+            return Numeral::NotDigits;
+        }
+        acc = acc * base + d;
+        i += 1;
+    }
+    Numeral::Value(acc)
+}
+
+fn wide(x: u8) -> u64
+    ensures { λ r. ⌜ r ≡ x ⌝ }
+{
+    x as u64
+}
+
+fn index(x: u8) -> usize
+    ensures { λ r. ⌜ (r ≡ x) × (r < 256) ⌝ }
+{
+    x as usize
+}

@@ -1,0 +1,23 @@
+// The lines of a text, by the places where they begin and end.
+ghost use mathlib.Core.Path.{_≡_};
+ghost use Prim.Native.Nat.{_+_, _≤_};
+ghost use lib.ListN.{length, drop};
+ghost use Rattle.text.specs.Lines.{firstLine};
+
+// The byte that ends a line.
+pub const LF: u8 = 10;
+
+// The place where the line that begins at `from` ends: that of its LF, or the end of the text.
+pub fn line_end(s: &[u8], from: usize) -> usize
+    requires { ⌜ from ≤ length (now s) ⌝ }
+    ensures { λ r. ⌜ (r ≡ from + length (firstLine (drop from (now (s .entry))))) × (r ≤ length (now (s .entry))) ⌝ }
+{
+    let mut at = from;
+    while at < s.len() {
+        if s[at] == LF {
+            return at;
+        }
+        at += 1;
+    }
+    at
+}

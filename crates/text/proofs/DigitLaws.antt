@@ -122,3 +122,34 @@ module _ (b a i : ℕ) (s : List ℕ) (h : i < length s) where
 pub read-end : (b a i : ℕ) (s : List ℕ) → length s ≤ i → Value a ≡ numeralAfter b a (drop i s)
 unfolding allDigits valueAfter
 read-end b a i s h = rw (drop-of-length-le s h)
+
+-- ---- an answer that is a number where a test holds
+
+module _ (t : Bool) (n : ℕ) where
+  pub number-yes : (v : ℕ) → cond t (Value n) NotDigits ≡ Value v → t ≡ true
+  number-yes v = go t
+    where
+      go : (t : Bool) → cond t (Value n) NotDigits ≡ Value v → t ≡ true
+      go true e = refl
+      go false e = cc
+
+  pub number-no : cond t (Value n) NotDigits ≡ NotDigits → t ≡ false
+  number-no = go t
+    where
+      go : (t : Bool) → cond t (Value n) NotDigits ≡ NotDigits → t ≡ false
+      go true e = cc
+      go false e = refl
+
+  pub number-value : (v : ℕ) → cond t (Value n) NotDigits ≡ Value v → v ≡ n
+  number-value v = go t
+    where
+      go : (t : Bool) → cond t (Value n) NotDigits ≡ Value v → v ≡ n
+      go true e = cc
+      go false e = cc
+
+  -- The number, or 0 where there is none.
+  pub number-is : (v : ℕ) → cond t (Value n) NotDigits ≡ Value v → v ≡ cond t n 0
+  number-is v e = rw (number-yes v e) (number-value v e)
+
+  pub number-none : cond t (Value n) NotDigits ≡ NotDigits → 0 ≡ cond t n 0
+  number-none e = rw (number-no e)

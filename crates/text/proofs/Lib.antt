@@ -1,5 +1,6 @@
 -- Laws that belong to no one function.
 pub mod Truth
+pub mod QuestionLaws
 pub mod PutLaws
 pub mod DigitLaws
 pub mod TableLaws

@@ -1,16 +1,19 @@
 -- Laws of the lines of a text. Assumes nothing.
 use mathlib.Core.Path.{_≡_, refl, sym, _∙_, ap}
 use mathlib.Core.Bool.{Bool, true, false, cond}
-use mathlib.Core.List.{List, [], _∷_, _++_}
+use mathlib.Core.List.{List, [], _∷_, _++_, map}
 use Prim.Native.Nat.{ℕ, zero, suc, _+_, _-_, _≤_, _<_}
 use native.Mathlib.Nat.{add-zero, add-suc, suc-add, zero-add, not-suc-le-zero, le-of-suc-le-suc}
 use native.Mathlib.Omega.{arith}
 use native.Mathlib.Numerals.{add-one}
 use lib.ListN.{length, getD, take, drop, length-drop, drop-of-length-le}
-use lib.Seq.{drop-cons, drop-drop}
-use lib.Dec.{eqb, ltb}
-use borrow.Author.Tests.{eq-eqb, ne-eqb, eqb-true, eqb-false}
-use Rattle.text.specs.Lines.{LF, lines, inFront, firstLine, unlines}
+use lib.Seq.{drop-cons, drop-drop, getD-drop}
+use lib.Dec.{eqb, ltb, leb·suc-suc}
+use borrow.Author.Tests.{lt-ltb, le-ltb, ltb-true, ltb-false, eq-eqb, ne-eqb, eqb-true}
+use Rattle.text.specs.Lines.{LF, lines, inFront, firstLine, unlines, endsLine}
+use Rattle.text.specs.Numerals.{digitValue, digits, allDigits}
+use Rattle.text.proofs.Truth.{and-left, and-right, leb-sub}
+use Rattle.text.proofs.DigitLaws.{all-written}
 
 -- No byte of the list is an LF.
 unfoldable pub NoLF : List ℕ → Type 0
@@ -32,6 +35,21 @@ unfolding NoLF lines
 lines-last [] n h = absurd (not-suc-le-zero h)
 lines-last (c ∷ []) n h = rw (ne-eqb c LF (n .0))
 lines-last (c ∷ d ∷ l) n h = rw (ne-eqb c LF (n .0), lines-last (d ∷ l) (n .1) (omega arith))
+
+-- Digits have no LF among them.
+pub digits-no-lf : (b : ℕ) (l : List ℕ) → b ≤ 16 → allDigits b l ≡ true → NoLF l
+unfolding NoLF allDigits
+digits-no-lf b [] h e = tt
+digits-no-lf b (c ∷ l) h e =
+    let d = ltb-true (digitValue c) b (and-left (ltb (digitValue c) b) (allDigits b l) e) in (
+      (λ q. let over : digitValue c ≡ 16 = ap digitValue q in omega arith),
+      digits-no-lf b l h (and-right (ltb (digitValue c) b) (allDigits b l) e),
+    )
+
+pub written-no-lf : (b k : ℕ) → 0 < b → b ≤ 16 → (vs : List ℕ) → NoneLF (map (digits b k) vs)
+unfolding NoneLF
+written-no-lf b k some few [] = tt
+written-no-lf b k some few (v ∷ vs) = (digits-no-lf b (digits b k v) few (all-written b some few k v), written-no-lf b k some few vs)
 
 -- What is written as lines reads as those lines.
 pub lines-unlines : (ls : List (List ℕ)) → NoneLF ls → lines (unlines ls) ≡ ls
@@ -79,6 +97,26 @@ first-stop (c ∷ s) h = go (eqb c LF) refl (first-stop s) h
         → length (cond t [] (c ∷ firstLine s)) < suc (length s) → getD (c ∷ s) (length (cond t [] (c ∷ firstLine s))) 0 ≡ LF
     go true e ih h = eqb-true c LF e
     go false e ih h = ih (le-of-suc-le-suc h)
+
+-- It ends where a line can end.
+pub first-ends : (s : List ℕ) → endsLine s (length (firstLine s)) ≡ true
+first-ends s = go (ltb (length (firstLine s)) (length s)) refl
+  where
+    go : (t : Bool) → ltb (length (firstLine s)) (length s) ≡ t → cond t (eqb (getD s (length (firstLine s)) 0) LF) true ≡ true
+    go true e = eq-eqb _ _ (first-stop s (ltb-true _ _ e))
+    go false e = refl
+
+-- Bytes without an LF, where a line can end after them, are the first line.
+pub first-is : (k : ℕ) (s : List ℕ) → k ≤ length s → NoLF (take k s) → endsLine s k ≡ true → firstLine s ≡ take k s
+unfolding NoLF firstLine
+first-is zero [] h n e = refl
+first-is zero (c ∷ s) h n e = let here = rw (lt-ltb 0 (suc (length s)) (omega arith)) at e in rw here
+first-is (suc k) [] h n e = absurd (not-suc-le-zero h)
+first-is (suc k) (c ∷ s) h n e = rw (ne-eqb c LF (n .0)) (ap (λ (l : List ℕ). c ∷ l) (first-is k s (le-of-suc-le-suc h) (n .1) (rw (leb·suc-suc (suc k) (length s)) at e)))
+
+-- The same of a text from a place on.
+pub ends-drop : (s : List ℕ) (p k : ℕ) → p ≤ length s → endsLine (drop p s) k ≡ endsLine s (p + k)
+ends-drop s p k h = rw (length-drop, getD-drop, leb-sub (suc k) p (length s) h, add-suc)
 
 -- The lines of a text that has bytes: the first, and those after its LF.
 pub lines-first : (s : List ℕ) → 0 < length s → lines s ≡ firstLine s ∷ lines (drop (suc (length (firstLine s))) s)

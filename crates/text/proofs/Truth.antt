@@ -1,5 +1,9 @@
--- Laws of tests joined by `&&`. Assumes nothing.
+-- Laws of tests. Assumes nothing.
 use mathlib.Core.Path.{_≡_, refl, sym}
+use Prim.Native.Nat.{ℕ, _+_, _-_, _≤_}
+use native.Mathlib.Omega.{arith}
+use lib.Dec.{leb}
+use borrow.Author.Tests.{le-leb, lt-leb, leb-true, leb-false}
 use mathlib.Core.Bool.{Bool, true, false, cond, _&&_, false≢true}
 
 pub and-left : (a b : Bool) → (a && b) ≡ true → a ≡ true
@@ -13,3 +17,11 @@ and-right false b e = absurd (false≢true e)
 pub cond-and {ℓ} : {A : Type ℓ} (a b : Bool) (x y : A) → cond (a && b) x y ≡ cond a (cond b x y) y
 cond-and true b x y = refl
 cond-and false b x y = refl
+
+-- A difference compared is a sum compared.
+pub leb-sub : (a p n : ℕ) → p ≤ n → leb a (n - p) ≡ leb (p + a) n
+leb-sub a p n h = go (leb (p + a) n) refl
+  where
+    go : (t : Bool) → leb (p + a) n ≡ t → leb a (n - p) ≡ leb (p + a) n
+    go true e = let below = leb-true (p + a) n e in rw (e, le-leb a (n - p) (omega arith))
+    go false e = let past = leb-false (p + a) n e in rw (e, lt-leb a (n - p) (omega arith))

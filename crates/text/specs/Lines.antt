@@ -1,8 +1,9 @@
 -- The lines of a text.
 use Prim.Native.Nat.{ℕ}
-use mathlib.Core.Bool.{Bool, cond}
+use mathlib.Core.Bool.{Bool, true, cond}
 use mathlib.Core.List.{List, [], _∷_, _++_}
-use lib.Dec.{eqb}
+use lib.Dec.{eqb, ltb}
+use lib.ListN.{length, getD}
 
 -- The byte that ends a line.
 abbrev pub LF : ℕ
@@ -22,6 +23,10 @@ lines (c ∷ s) = cond (eqb c LF) ([] ∷ lines s) (inFront c (lines s))
 unfoldable pub firstLine : List ℕ → List ℕ
 firstLine [] = []
 firstLine (c ∷ s) = cond (eqb c LF) [] (c ∷ firstLine s)
+
+-- A line can end at this place: an LF stands there, or the text ends.
+abbrev pub endsLine : List ℕ → ℕ → Bool
+endsLine s at = cond (ltb at (length s)) (eqb (getD s at 0) LF) true
 
 -- The text of lines: an LF after each, the last too.
 unfoldable pub unlines : List (List ℕ) → List ℕ

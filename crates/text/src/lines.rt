@@ -2,7 +2,7 @@
 ghost use mathlib.Core.Path.{_≡_};
 ghost use Prim.Native.Nat.{_+_, _≤_};
 ghost use lib.ListN.{length, drop};
-ghost use Rattle.text.specs.Lines.{firstLine};
+ghost use Rattle.text.specs.Lines.{firstLine, endsLine};
 
 // The byte that ends a line.
 pub const LF: u8 = 10;
@@ -20,4 +20,14 @@ pub fn line_end(s: &[u8], from: usize) -> usize
         at += 1;
     }
     at
+}
+
+// Whether a line can end at this place: an LF stands there, or the text ends.
+pub fn ends_line(s: &[u8], at: usize) -> bool
+    ensures { λ r. ⌜ r ≡ endsLine (now (s .entry)) at ⌝ }
+{
+    if at < s.len() {
+        return s[at] == LF;
+    }
+    true
 }

@@ -1,0 +1,109 @@
+-- Laws of the questions asked of a memory file's lines, over the digit count. Assumes nothing.
+use mathlib.Core.Path.{_≡_, refl, sym, _∙_, ap}
+use mathlib.Core.Bool.{Bool, true, false, cond, _&&_, true≢false}
+use mathlib.Core.List.{List, [], _∷_, _++_}
+use Prim.Native.Nat.{ℕ, zero, suc, _+_, _-_, _≤_, _<_}
+use native.Mathlib.Nat.{le-trans}
+use native.Mathlib.Omega.{arith}
+use native.Mathlib.Numerals.{add-one}
+use lib.ListN.{length, getD, take, drop, length-drop, drop-of-length-le}
+use lib.Seq.{drop-drop, length-take-le}
+use lib.Dec.{eqb, ltb}
+use borrow.Author.Tests.{lt-ltb, le-ltb, ltb-true, eq-eqb, eqb-true}
+use Rattle.text.specs.declared.Numeral.{Numeral}
+use Rattle.text.specs.declared.Numeral.the-variants.{Value, NotDigits}
+use Rattle.text.specs.Questions.{Told, accepted, refused, firstNo, firstBad}
+use Rattle.text.specs.Numerals.{allDigits, value, numeral}
+use Rattle.text.specs.Lines.{lines, firstLine, endsLine}
+use Rattle.text.proofs.Truth.{and-left, and-right}
+use Rattle.text.proofs.QuestionLaws.{first-yes}
+use Rattle.text.proofs.LineLaws.{first-le, first-front, first-ends, first-is, lines-first, digits-no-lf}
+use Rattle.files.specs.MemoryFile.{isWord, lineWord, wordQuestions}
+
+-- ---- one line
+
+module _ (k : ℕ) (s : List ℕ) where
+  -- A first line that is a word: k digits stand at the front, and a line can end after them.
+  pub word-form : isWord k (firstLine s) ≡ true → (length (firstLine s) ≡ k) × (k ≤ length s) × (endsLine s k ≡ true) × (allDigits 16 (take k s) ≡ true)
+  word-form e =
+      let size = eqb-true (length (firstLine s)) k (and-left (eqb (length (firstLine s)) k) (allDigits 16 (firstLine s)) e) in (
+        size,
+        rw (← size) (first-le s),
+        rw (← size) (first-ends s),
+        rw (← size, first-front s) (and-right (eqb (length (firstLine s)) k) (allDigits 16 (firstLine s)) e),
+      )
+
+  no-word : (isWord k (firstLine s) ≡ true → ⊥) → NotDigits ≡ lineWord k (firstLine s)
+  no-word not = go (isWord k (firstLine s)) refl
+    where
+      go : (t : Bool) → isWord k (firstLine s) ≡ t → NotDigits ≡ cond t (Value (value 16 (firstLine s))) NotDigits
+      go true e = absurd (not e)
+      go false e = refl
+
+  -- What `line_word` finds: too few bytes, no end after k of them, or k bytes to read.
+  pub word-short : length s < k → NotDigits ≡ lineWord k (firstLine s)
+  word-short h = no-word (λ e. let long = word-form e .1 in omega arith)
+
+  pub word-long : endsLine s k ≡ false → NotDigits ≡ lineWord k (firstLine s)
+  word-long h = no-word (λ e. true≢false (sym (word-form e .2) ∙ h))
+
+  pub word-read : k ≤ length s → endsLine s k ≡ true → numeral 16 (take k s) ≡ lineWord k (firstLine s)
+  word-read h ends = go (allDigits 16 (take k s)) refl
+    where
+      go : (t : Bool) → allDigits 16 (take k s) ≡ t → cond t (Value (value 16 (take k s))) NotDigits ≡ lineWord k (firstLine s)
+      go true e = rw (first-is k s h (digits-no-lf 16 (take k s) (omega arith) e) ends, length-take-le k s h, eq-eqb k k refl, e)
+      go false e = no-word (λ w. true≢false (sym (word-form w .3) ∙ e))
+
+-- ---- one line after the other
+
+-- The lines of `text` from `at` on, i lines before them.
+module _ (k room : ℕ) (text : List ℕ) (at i : ℕ) where
+  module _ (h : at < length text) where
+    here : lines (drop at text) ≡ firstLine (drop at text) ∷ lines (drop (at + suc (length (firstLine (drop at text)))) text)
+    here = lines-first (drop at text) (rw length-drop (omega arith)) ∙ rw drop-drop
+
+    pub check-full : room ≤ i → refused 10 (i + 1) ≡ firstBad (wordQuestions k room) i (lines (drop at text)) (accepted 0)
+    unfolding firstBad
+    check-full full = rw (here, le-ltb i room full)
+
+    pub check-bad : i < room → isWord k (firstLine (drop at text)) ≡ false
+        → refused 9 (i + 1) ≡ firstBad (wordQuestions k room) i (lines (drop at text)) (accepted 0)
+    unfolding firstBad
+    check-bad left bad = rw (here, lt-ltb i room left, bad)
+
+    -- The next line begins after k digits and an LF.
+    pub next-line : isWord k (firstLine (drop at text)) ≡ true → lines (drop at text) ≡ firstLine (drop at text) ∷ lines (drop (at + (k + 1)) text)
+    next-line good = here ∙ rw (word-form k (drop at text) good .0, add-one k)
+
+    pub check-good : i < room → isWord k (firstLine (drop at text)) ≡ true
+        → firstBad (wordQuestions k room) (i + 1) (lines (drop (at + (k + 1)) text)) (accepted 0)
+        ≡ firstBad (wordQuestions k room) i (lines (drop at text)) (accepted 0)
+    unfolding firstBad
+    check-good left good = rw (next-line good, lt-ltb i room left, good)
+
+  pub check-end : length text ≤ at → accepted 0 ≡ firstBad (wordQuestions k room) i (lines (drop at text)) (accepted 0)
+  unfolding firstBad lines
+  check-end h = rw (drop-of-length-le text h)
+
+-- ---- a good file
+
+-- In a good file each line has a word of the memory and is a word, and the lines after it are good.
+module _ (k room : ℕ) (text : List ℕ) (at i : ℕ) (h : at < length text) (good : firstBad (wordQuestions k room) i (lines (drop at text)) (accepted 0) .number ≡ 0) where
+  answers : (ltb i room ≡ true) × (isWord k (firstLine (drop at text)) ≡ true)
+  unfolding firstBad
+  answers =
+      let asked = rw (here k room text at i h) at good in
+      let left = first-yes 10 (i + 1) (ltb i room) _ (omega arith) asked in
+      (left .0, first-yes 9 (i + 1) (isWord k (firstLine (drop at text))) _ (omega arith) (left .1) .0)
+
+  pub good-room : i < room
+  good-room = ltb-true i room (answers .0)
+
+  pub good-word : isWord k (firstLine (drop at text)) ≡ true
+  good-word = answers .1
+
+  pub good-fits : at + k ≤ length text
+  good-fits = let long = rw length-drop at (word-form k (drop at text) good-word .1) in omega arith
+
+  pub good-next : firstBad (wordQuestions k room) (i + 1) (lines (drop (at + (k + 1)) text)) (accepted 0) .number ≡ 0
+  good-next = rw (check-good k room text at i h good-room good-word) good

@@ -1,0 +1,7 @@
+-- Laws that belong to no one function, and the theorem of the return trip.
+pub mod CheckLaws
+pub mod FillLaws
+pub mod LayLaws
+pub mod SizeLaws
+pub mod AnswerLaws
+pub mod Irq2Laws

@@ -1,0 +1,83 @@
+use Prim.Native.Nat.{_+_, _-_, _*_, _≤_}
+use mathlib.Core.Path.{_≡_, refl, _∙_}
+use native.Mathlib.Omega.{arith}
+use lib.ListN.{length, drop}
+use Rattle.text.specs.Place.{put}
+use Rattle.files.specs.MemoryFile.{fileText}
+use Rattle.files.proofs.LayLaws.{lay-turn, lay-end}
+use Rattle.files.proofs.lay.lay_image.Statement.{statement}
+use Rattle.files.proofs.lay.lay_image.Tie as tie
+use Rattle.files.proofs.lay.lay_image.Reads as reads
+use Rattle.files.proofs.lay.lay_image.Lts as lts
+use Rattle.files.proofs.lay.lay_line.Reads as lay-line-reads
+
+abbrev Inv-loop : tie.InvT-loop
+Inv-loop image out₀ at pairs p₀ i₀ out p i = (put out p (fileText 12 (drop i image)) ≡ put out₀ at (fileText 12 image)) × ((length out ≡ length out₀) × ((p ≡ at + i * 13) × (i ≤ length image)))
+
+abbrev μ-loop : tie.MeasureT-loop
+μ-loop image out₀ at pairs p₀ i₀ out p i = length image - i
+
+-- src/lay.rt:30:5
+loop-holds : tie.Need-loop-holds Inv-loop μ-loop
+loop-holds c = (refl, (refl, (omega arith, omega arith)))
+
+-- src/lay.rt:31:30
+mul-lay-line : tie.Need-mul-lay-line Inv-loop μ-loop
+mul-lay-line c = omega arith
+
+-- src/lay.rt:31:30
+shared-slice-read-lay-line : tie.Need-shared-slice-read-lay-line Inv-loop μ-loop
+shared-slice-read-lay-line c = omega arith
+
+-- src/lay.rt:31:9
+lay-line-requires : tie.Need-lay-line-requires Inv-loop μ-loop
+lay-line-requires c κs = (omega arith, c .before .before .before .before .before .before .pre .1)
+
+-- src/lay.rt:32:9
+add-p : tie.Need-add-p Inv-loop μ-loop
+add-p c = omega arith
+
+-- src/lay.rt:33:9
+add-i : tie.Need-add-i Inv-loop μ-loop
+add-i c = omega arith
+
+-- src/lay.rt:30:5
+loop-less : tie.Need-loop-less Inv-loop μ-loop
+loop-less c = omega arith
+
+-- src/lay.rt:30:5
+loop-again : tie.Need-loop-again Inv-loop μ-loop
+loop-again c =
+    let l = c .before .before .before .before .before .before .loop in
+    let a = c .before .before .before .before .before .before .before .before .before .args in
+    let p = c .before .before .lay-line in (
+      lay-turn 12 (a .image .now) (l .i) (l .out) _ (l .p) _ (omega arith) refl (p .ensures) ∙ l .inv .0,
+      (omega (arith, p .kept), (omega arith, omega arith)),
+    )
+
+-- src/lay.rt:24:1
+same-length : tie.Need-same-length Inv-loop μ-loop
+same-length c = omega arith
+
+-- src/lay.rt:24:1
+returns : tie.Need-returns Inv-loop μ-loop
+returns c =
+    let l = c .before .loop in
+    (lay-end 12 (c .before .before .before .before .args .image .now) (l .i) (l .out) (l .p) (omega arith) ∙ l .inv .0, omega arith)
+
+pub lay-image-spec : {M : Type 1} → statement M
+lay-image-spec =
+    tie.close
+    (tie.spec
+    Inv-loop
+    μ-loop
+    loop-holds
+    mul-lay-line
+    shared-slice-read-lay-line
+    lay-line-requires
+    add-p
+    add-i
+    loop-less
+    loop-again
+    same-length
+    returns)

@@ -1,0 +1,30 @@
+-- What the readers and writers promise: the answer, and the lent memory after the call.
+use Prim.Native.Nat.{ℕ}
+use mathlib.Core.Path.{_≡_}
+use mathlib.Core.Bool.{Bool}
+use mathlib.Core.List.{List}
+use lib.ListN.{length}
+use Rattle.text.specs.Questions.{unlessRefused}
+use Rattle.text.specs.Lines.{lines}
+use Rattle.text.specs.Place.{put}
+use Rattle.files.specs.declared.FileRead.{FileRead}
+use Rattle.files.specs.declared.CyclesRead.{CyclesRead}
+use Rattle.files.specs.declared.Written.{Written}
+use Rattle.files.specs.MemoryFile.{readTold, writeTold, fileWords}
+use Rattle.files.specs.Irq2File.{irq2Told, fileCycles}
+use Rattle.files.specs.Answers.{fileReadTold, cyclesReadTold, writtenTold}
+
+-- A text of k digits a line is read into `memory`, which is `after` then.
+pub record MemoryRead (k : ℕ) (rightLength : Bool) (text memory : List ℕ) (r : FileRead) (after : List ℕ) : Type 0 where
+  pub answer : fileReadTold r ≡ readTold k rightLength (length memory) text
+  pub words : after ≡ unlessRefused (readTold k rightLength (length memory) text) (fileWords (length memory) (lines text)) memory
+
+-- The irq2 file is read into `cycles`.
+pub record Irq2Read (text cycles : List ℕ) (r : CyclesRead) (after : List ℕ) : Type 0 where
+  pub answer : cyclesReadTold r ≡ irq2Told (length cycles) text
+  pub words : after ≡ unlessRefused (irq2Told (length cycles) text) (put cycles 0 (fileCycles text)) cycles
+
+-- A text is written into `out`.
+pub record TextWritten (rightLength : Bool) (text out : List ℕ) (r : Written) (after : List ℕ) : Type 0 where
+  pub answer : writtenTold r ≡ writeTold rightLength text (length out)
+  pub bytes : after ≡ unlessRefused (writeTold rightLength text (length out)) (put out 0 text) out

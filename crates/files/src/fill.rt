@@ -1,0 +1,98 @@
+// Good memory files put into memory: a word for each line, zero for each that is missing.
+use crate::check::line_word;
+use text::Numeral;
+ghost use mathlib.Core.Path.{_≡_};
+ghost use mathlib.Core.Bool.{cond};
+ghost use mathlib.Core.List.{_++_};
+ghost use Prim.Native.Nat.{_-_, _^_, _≤_, _<_};
+ghost use lib.ListN.{length, take, drop, replicate};
+ghost use Rattle.text.specs.Numerals.{DigitValues, value};
+ghost use Rattle.text.specs.Lines.{firstLine, lines};
+ghost use Rattle.files.specs.Sizes.{imageDigits, wordDigits, frameDigits};
+ghost use Rattle.files.specs.MemoryFile.{isWord, linesTold, fileWords};
+
+// The number on the line of k digits that begins at `at`; 0 where the line is no such word.
+fn word(text: &[u8], at: usize, k: usize, values: &[u8; 256]) -> u64
+    requires { ⌜ (at ≤ length (now text)) × ((k ≤ 12) × DigitValues (now values)) ⌝ }
+    ensures { λ r. ⌜ r ≡ cond (isWord k (firstLine (drop at (now (text .entry))))) (value 16 (firstLine (drop at (now (text .entry))))) 0 ⌝ }
+{
+    match line_word(text, at, k, values) {
+        Numeral::Value(v) => v,
+        Numeral::NotDigits => 0,
+    }
+}
+
+pub fn fill_image(text: &[u8], image: &mut [u64], values: &[u8; 256])
+    requires { ⌜ (linesTold imageDigits (length (now image)) (now text) .number ≡ 0) × DigitValues (now values) ⌝ }
+    ensures { λ _. ⌜ now (image .exit) ≡ fileWords (length (now (image .entry))) (lines (now (text .entry))) ⌝ }
+{
+    let mut at = 0;
+    let mut i = 0;
+    while at < text.len() {
+        image[i] = word(text, at, 12, values);
+        at += 13;
+        i += 1;
+    }
+    clear_image(image, i);
+}
+
+fn clear_image(image: &mut [u64], from: usize)
+    requires { ⌜ from ≤ length (now image) ⌝ }
+    ensures { λ _. ⌜ now (image .exit) ≡ take from (now (image .entry)) ++ replicate (length (now (image .entry)) - from) 0 ⌝ }
+{
+    let mut i = from;
+    while i < image.len() {
+        image[i] = 0;
+        i += 1;
+    }
+}
+
+pub fn fill_words(text: &[u8], memory: &mut [u32], values: &[u8; 256])
+    requires { ⌜ (linesTold wordDigits (length (now memory)) (now text) .number ≡ 0) × DigitValues (now values) ⌝ }
+    ensures { λ _. ⌜ now (memory .exit) ≡ fileWords (length (now (memory .entry))) (lines (now (text .entry))) ⌝ }
+{
+    let mut at = 0;
+    let mut i = 0;
+    while at < text.len() {
+        memory[i] = word(text, at, 8, values) as u32;
+        at += 9;
+        i += 1;
+    }
+    clear_words(memory, i);
+}
+
+fn clear_words(memory: &mut [u32], from: usize)
+    requires { ⌜ from ≤ length (now memory) ⌝ }
+    ensures { λ _. ⌜ now (memory .exit) ≡ take from (now (memory .entry)) ++ replicate (length (now (memory .entry)) - from) 0 ⌝ }
+{
+    let mut i = from;
+    while i < memory.len() {
+        memory[i] = 0;
+        i += 1;
+    }
+}
+
+pub fn fill_frame(text: &[u8], frame: &mut [u8], values: &[u8; 256])
+    requires { ⌜ (linesTold frameDigits (length (now frame)) (now text) .number ≡ 0) × DigitValues (now values) ⌝ }
+    ensures { λ _. ⌜ now (frame .exit) ≡ fileWords (length (now (frame .entry))) (lines (now (text .entry))) ⌝ }
+{
+    let mut at = 0;
+    let mut i = 0;
+    while at < text.len() {
+        frame[i] = word(text, at, 2, values) as u8;
+        at += 3;
+        i += 1;
+    }
+    clear_frame(frame, i);
+}
+
+fn clear_frame(frame: &mut [u8], from: usize)
+    requires { ⌜ from ≤ length (now frame) ⌝ }
+    ensures { λ _. ⌜ now (frame .exit) ≡ take from (now (frame .entry)) ++ replicate (length (now (frame .entry)) - from) 0 ⌝ }
+{
+    let mut i = from;
+    while i < frame.len() {
+        frame[i] = 0;
+        i += 1;
+    }
+}

@@ -1,0 +1,103 @@
+// The reader of the irq2 file.
+use crate::CyclesRead;
+use text::Numeral;
+use text::digits::digit_values;
+use text::digits::read_digits;
+use text::lines::line_end;
+ghost use mathlib.Core.Path.{_≡_};
+ghost use mathlib.Core.Bool.{cond};
+ghost use Prim.Native.Nat.{_≤_, _<_};
+ghost use lib.ListN.{length};
+ghost use Rattle.text.specs.Numerals.{DigitValues, value};
+ghost use Rattle.text.specs.Place.{put};
+ghost use Rattle.files.specs.Irq2File.{isCycle, lineCycle, irq2Told, fileCycles};
+ghost use Rattle.files.specs.Answers.{cyclesReadTold};
+ghost use Rattle.files.specs.Promises.{Irq2Read};
+
+// Reads an irq2 file: one cycle a line, strictly rising, into the front of a slice of any length.
+pub fn read_irq2(text: &[u8], cycles: &mut [u64]) -> CyclesRead
+    ensures { λ r. ⌜ Irq2Read (now (text .entry)) (now (cycles .entry)) r (now (cycles .exit)) ⌝ }
+{
+    let values = digit_values();
+    match check_cycles(text, cycles.len(), &values) {
+        CyclesRead::Cycles(count) => {
+            fill_cycles(text, cycles, &values);
+            CyclesRead::Cycles(count)
+        }
+        CyclesRead::NoWord(line) => CyclesRead::NoWord(line),
+        CyclesRead::BadCycle(line) => CyclesRead::BadCycle(line),
+        CyclesRead::NotRising(line) => CyclesRead::NotRising(line),
+    }
+}
+
+// Asks the questions of an irq2 file's lines.
+fn check_cycles(text: &[u8], room: usize, values: &[u8; 256]) -> CyclesRead
+    requires { ⌜ DigitValues (now values) ⌝ }
+    ensures { λ r. ⌜ cyclesReadTold r ≡ irq2Told room (now (text .entry)) ⌝ }
+{
+    let mut at = 0;
+    let mut i = 0;
+    let mut least = 0;
+    while at < text.len() {
+        if room <= i {
+            return CyclesRead::NoWord(i + 1);
+        }
+        let end = line_end(text, at);
+        let Numeral::Value(cycle) = line_cycle(&text[at..end], values) else {
+            return CyclesRead::BadCycle(i + 1);
+        };
+        if cycle < least {
+            return CyclesRead::NotRising(i + 1);
+        }
+        least = cycle + 1;
+        at = end + 1;
+        i += 1;
+    }
+    CyclesRead::Cycles(i)
+}
+
+// The cycle that a line is: 1 to 13 decimal digits, below the cycle limit.
+fn line_cycle(line: &[u8], values: &[u8; 256]) -> Numeral
+    requires { ⌜ DigitValues (now values) ⌝ }
+    ensures { λ r. ⌜ r ≡ lineCycle (now (line .entry)) ⌝ }
+{
+    if line.len() < 1 {
+        return Numeral::NotDigits;
+    }
+    if 13 < line.len() {
+        return Numeral::NotDigits;
+    }
+    let Numeral::Value(cycle) = read_digits(line, 10, values) else {
+        return Numeral::NotDigits;
+    };
+    if cycle < 0xFF_FFFF_FFFF {
+        return Numeral::Value(cycle);
+    }
+    Numeral::NotDigits
+}
+
+// Puts the cycles of a good file at the front of the slice.
+fn fill_cycles(text: &[u8], cycles: &mut [u64], values: &[u8; 256])
+    requires { ⌜ (irq2Told (length (now cycles)) (now text) .number ≡ 0) × DigitValues (now values) ⌝ }
+    ensures { λ _. ⌜ now (cycles .exit) ≡ put (now (cycles .entry)) 0 (fileCycles (now (text .entry))) ⌝ }
+{
+    let mut at = 0;
+    let mut i = 0;
+    while at < text.len() {
+        let end = line_end(text, at);
+        cycles[i] = cycle_of(&text[at..end], values);
+        at = end + 1;
+        i += 1;
+    }
+}
+
+// The cycle that a line is, or 0 where it is none.
+fn cycle_of(line: &[u8], values: &[u8; 256]) -> u64
+    requires { ⌜ DigitValues (now values) ⌝ }
+    ensures { λ r. ⌜ r ≡ cond (isCycle (now (line .entry))) (value 10 (now (line .entry))) 0 ⌝ }
+{
+    match line_cycle(line, values) {
+        Numeral::Value(cycle) => cycle,
+        Numeral::NotDigits => 0,
+    }
+}

@@ -1,0 +1,87 @@
+// The readers of memory files. Each asks its questions first, so that a refusal changes nothing.
+use crate::FileRead;
+use crate::check::check_words;
+use crate::fill::fill_frame;
+use crate::fill::fill_image;
+use crate::fill::fill_words;
+use crate::sizes::is_part;
+use text::digits::digit_values;
+ghost use mathlib.Core.Path.{_≡_};
+ghost use mathlib.Core.Bool.{true};
+ghost use lib.ListN.{length};
+ghost use Rattle.files.specs.Sizes.{isImage, isData, isFrame, isPart, imageDigits, wordDigits, frameDigits};
+ghost use Rattle.files.specs.Promises.{MemoryRead};
+
+// Reads an instruction file: 12 digits a line, into 4,096 words.
+pub fn read_image(text: &[u8], image: &mut [u64]) -> FileRead
+    ensures { λ r. ⌜ MemoryRead imageDigits (isImage (length (now (image .entry)))) (now (text .entry)) (now (image .entry)) r (now (image .exit)) ⌝ }
+{
+    if image.len() != 4096 {
+        return FileRead::WrongLength;
+    }
+    let values = digit_values();
+    match check_words(text, 12, image.len(), &values) {
+        FileRead::Filled => {
+            fill_image(text, image, &values);
+            FileRead::Filled
+        }
+        FileRead::WrongLength => FileRead::WrongLength,
+        FileRead::NoWord(line) => FileRead::NoWord(line),
+        FileRead::BadDigits(line) => FileRead::BadDigits(line),
+    }
+}
+
+// Reads a file of data: 8 digits a line, into 4,096 words.
+pub fn read_data(text: &[u8], memory: &mut [u32]) -> FileRead
+    ensures { λ r. ⌜ MemoryRead wordDigits (isData (length (now (memory .entry)))) (now (text .entry)) (now (memory .entry)) r (now (memory .exit)) ⌝ }
+{
+    if memory.len() != 4096 {
+        return FileRead::WrongLength;
+    }
+    read_words(text, memory)
+}
+
+// Reads a file of disk words: 8 digits a line, into a part of whole sectors.
+pub fn read_disk(text: &[u8], part: &mut [u32]) -> FileRead
+    ensures { λ r. ⌜ MemoryRead wordDigits (isPart (length (now (part .entry)))) (now (text .entry)) (now (part .entry)) r (now (part .exit)) ⌝ }
+{
+    if !is_part(part.len()) {
+        return FileRead::WrongLength;
+    }
+    read_words(text, part)
+}
+
+// Reads words of 8 digits into a memory whose length has been asked.
+fn read_words(text: &[u8], memory: &mut [u32]) -> FileRead
+    ensures { λ r. ⌜ MemoryRead wordDigits true (now (text .entry)) (now (memory .entry)) r (now (memory .exit)) ⌝ }
+{
+    let values = digit_values();
+    match check_words(text, 8, memory.len(), &values) {
+        FileRead::Filled => {
+            fill_words(text, memory, &values);
+            FileRead::Filled
+        }
+        FileRead::WrongLength => FileRead::WrongLength,
+        FileRead::NoWord(line) => FileRead::NoWord(line),
+        FileRead::BadDigits(line) => FileRead::BadDigits(line),
+    }
+}
+
+// Reads a file of the frame: 2 digits a line, into 65,536 bytes.
+pub fn read_frame(text: &[u8], frame: &mut [u8]) -> FileRead
+    ensures { λ r. ⌜ MemoryRead frameDigits (isFrame (length (now (frame .entry)))) (now (text .entry)) (now (frame .entry)) r (now (frame .exit)) ⌝ }
+{
+    if frame.len() != 65536 {
+        return FileRead::WrongLength;
+    }
+    let values = digit_values();
+    match check_words(text, 2, frame.len(), &values) {
+        FileRead::Filled => {
+            fill_frame(text, frame, &values);
+            FileRead::Filled
+        }
+        FileRead::WrongLength => FileRead::WrongLength,
+        FileRead::NoWord(line) => FileRead::NoWord(line),
+        FileRead::BadDigits(line) => FileRead::BadDigits(line),
+    }
+}

@@ -1,0 +1,91 @@
+// The writers of memory files.
+use crate::Written;
+use crate::lay::lay_frame;
+use crate::lay::lay_image;
+use crate::lay::lay_words;
+use crate::sizes::is_part_of;
+use text::digits::hex_pairs;
+ghost use mathlib.Core.Path.{_≡_};
+ghost use Prim.Native.Nat.{_+_, _*_, _≤_};
+ghost use lib.ListN.{length};
+ghost use Rattle.text.specs.Numerals.{HexPairs};
+ghost use Rattle.text.specs.Place.{put};
+ghost use Rattle.files.specs.Sizes.{isImage, isData, isFrame, isPartOf, imageDigits, wordDigits, frameDigits};
+ghost use Rattle.files.specs.MemoryFile.{fileText, sectorsOf};
+ghost use Rattle.files.specs.Promises.{TextWritten};
+
+// Writes the instruction image, 4,096 words, as 12 digits a line: the low 48 bits of each word.
+pub fn write_image(image: &[u64], text: &mut [u8]) -> Written
+    ensures { λ r. ⌜ TextWritten (isImage (length (now (image .entry)))) (fileText imageDigits (now (image .entry))) (now (text .entry)) r (now (text .exit)) ⌝ }
+{
+    if image.len() != 4096 {
+        return Written::WrongLength;
+    }
+    if text.len() < 53248 {
+        return Written::NoRoom;
+    }
+    let pairs = hex_pairs();
+    Written::Bytes(lay_image(image, text, 0, &pairs))
+}
+
+// Writes the data memory, 4,096 words, as 8 digits a line.
+pub fn write_data(memory: &[u32], text: &mut [u8]) -> Written
+    ensures { λ r. ⌜ TextWritten (isData (length (now (memory .entry)))) (fileText wordDigits (now (memory .entry))) (now (text .entry)) r (now (text .exit)) ⌝ }
+{
+    if memory.len() != 4096 {
+        return Written::WrongLength;
+    }
+    if text.len() < 36864 {
+        return Written::NoRoom;
+    }
+    let pairs = hex_pairs();
+    Written::Bytes(lay_words(memory, text, 0, &pairs))
+}
+
+// Writes the frame, 65,536 bytes, as 2 digits a line.
+pub fn write_frame(frame: &[u8], text: &mut [u8]) -> Written
+    ensures { λ r. ⌜ TextWritten (isFrame (length (now (frame .entry)))) (fileText frameDigits (now (frame .entry))) (now (text .entry)) r (now (text .exit)) ⌝ }
+{
+    if frame.len() != 65536 {
+        return Written::WrongLength;
+    }
+    if text.len() < 196608 {
+        return Written::NoRoom;
+    }
+    let pairs = hex_pairs();
+    Written::Bytes(lay_frame(frame, text, 0, &pairs))
+}
+
+// Writes so many sectors of the disk, 16,384 words, from the first one on, as 8 digits a line.
+pub fn write_disk(disk: &[u32], first: usize, sectors: usize, text: &mut [u8]) -> Written
+    ensures { λ r. ⌜ TextWritten (isPartOf (length (now (disk .entry))) first sectors) (fileText wordDigits (sectorsOf (now (disk .entry)) first sectors)) (now (text .entry)) r (now (text .exit)) ⌝ }
+{
+    if !is_part_of(disk.len(), first, sectors) {
+        return Written::WrongLength;
+    }
+    if text.len() < 1152 * sectors {
+        return Written::NoRoom;
+    }
+    let pairs = hex_pairs();
+    Written::Bytes(lay_sectors(disk, first, sectors, text, &pairs))
+}
+
+// Lays so many sectors of the disk from the first one on, each as a part of the disk, and returns the place after them.
+fn lay_sectors(
+    disk: &[u32],
+    first: usize,
+    sectors: usize,
+    text: &mut [u8],
+    pairs: &[u16; 256],
+) -> usize
+    requires { ⌜ (length (now disk) ≡ 16384) × ((first + sectors ≤ 128) × ((1152 * sectors ≤ length (now text)) × HexPairs (now pairs))) ⌝ }
+    ensures { λ r. ⌜ (now (text .exit) ≡ put (now (text .entry)) 0 (fileText wordDigits (sectorsOf (now (disk .entry)) first sectors))) × (r ≡ 1152 * sectors) ⌝ }
+{
+    let mut at = 0;
+    let mut s = first;
+    while s < first + sectors {
+        at = lay_words(&disk[128 * s..128 * s + 128], text, at, pairs);
+        s += 1;
+    }
+    at
+}

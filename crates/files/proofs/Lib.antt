@@ -5,3 +5,4 @@ pub mod LayLaws
 pub mod SizeLaws
 pub mod AnswerLaws
 pub mod Irq2Laws
+pub mod ReturnTrip

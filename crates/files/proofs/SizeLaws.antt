@@ -2,14 +2,14 @@
 use mathlib.Core.Path.{_≡_}
 use mathlib.Core.Bool.{Bool, true, _&&_}
 use mathlib.Core.List.{List}
-use Prim.Native.Nat.{ℕ, _+_, _*_, _≤_, _<_}
+use Prim.Native.Nat.{ℕ, _+_, _*_, _%_, _≤_, _<_}
 use native.Mathlib.Omega.{arith}
 use lib.ListN.{length, drop, length-drop}
 use lib.Seq.{length-take-le}
 use lib.Dec.{eqb, ltb, leb}
-use borrow.Author.Tests.{eqb-true, ltb-true, leb-true}
+use borrow.Author.Tests.{eqb-true, ltb-true, leb-true, eq-eqb, le-leb}
 use Rattle.text.proofs.Truth.{and-left, and-right}
-use Rattle.files.specs.Sizes.{isPartOf}
+use Rattle.files.specs.Sizes.{isPart, isPartOf}
 use Rattle.files.specs.MemoryFile.{sectorsOf, fileText}
 use Rattle.files.proofs.LayLaws.{length-text}
 
@@ -23,11 +23,24 @@ module _ (n first sectors : ℕ) (h : isPartOf n first sectors ≡ true) where
   pub part-within : first + sectors ≤ 128
   part-within = leb-true (first + sectors) 128 (and-right (eqb n 16384 && ltb 0 sectors) (leb (first + sectors) 128) h)
 
--- The text of a part of the disk: 128 lines of 9 bytes for each sector.
-pub length-part : (disk : List ℕ) (first sectors : ℕ) → isPartOf (length disk) first sectors ≡ true
-    → length (fileText 8 (sectorsOf disk first sectors)) ≡ 1152 * sectors
-length-part disk first sectors h =
-    let words = part-words (length disk) first sectors h in
-    let within = part-within (length disk) first sectors h in
-    let whole = length-take-le (128 * sectors) (drop (128 * first) disk) (rw length-drop (omega arith)) in
-    rw (length-text, whole) (omega arith)
+  pub part-some : 0 < sectors
+  part-some = ltb-true 0 sectors (and-right (eqb n 16384) (ltb 0 sectors) size)
+
+module _ (disk : List ℕ) (first sectors : ℕ) (h : isPartOf (length disk) first sectors ≡ true) where
+  -- A part of the disk has 128 words a sector.
+  pub length-sectors : length (sectorsOf disk first sectors) ≡ 128 * sectors
+  length-sectors =
+      let words = part-words (length disk) first sectors h in
+      let within = part-within (length disk) first sectors h in
+      length-take-le (128 * sectors) (drop (128 * first) disk) (rw length-drop (omega arith))
+
+  -- Its text has 128 lines of 9 bytes a sector.
+  pub length-part : length (fileText 8 (sectorsOf disk first sectors)) ≡ 1152 * sectors
+  length-part = rw (length-text, length-sectors) (omega arith)
+
+  -- As many words are a part that can be read into.
+  pub is-part : (n : ℕ) → n ≡ 128 * sectors → isPart n ≡ true
+  is-part n e =
+      let within = part-within (length disk) first sectors h in
+      let some = part-some (length disk) first sectors h in
+      rw (eq-eqb (n % 128) 0 (omega arith), le-leb 128 n (omega arith), le-leb n 16384 (omega arith))

@@ -2,23 +2,21 @@
 use mathlib.Core.Path.{_≡_, refl, sym, _∙_, ap}
 use mathlib.Core.Bool.{Bool, true, false, cond, _&&_, true≢false}
 use mathlib.Core.List.{List, [], _∷_, _++_}
-use Prim.Native.Nat.{ℕ, zero, suc, _+_, _-_, _≤_, _<_}
-use native.Mathlib.Nat.{le-trans}
+use Prim.Native.Nat.{ℕ, zero, suc, _+_, _-_, _^_, _≤_, _<_}
+use native.Mathlib.Nat.{pow-le-pow-right}
 use native.Mathlib.Omega.{arith}
 use native.Mathlib.Numerals.{add-one}
 use lib.ListN.{length, getD, take, drop, length-drop, drop-of-length-le}
 use lib.Seq.{drop-drop, length-take-le}
 use lib.Dec.{eqb, ltb}
 use borrow.Author.Tests.{lt-ltb, le-ltb, ltb-true, eq-eqb, eqb-true}
-use Rattle.text.specs.declared.Numeral.{Numeral}
-use Rattle.text.specs.declared.Numeral.the-variants.{Value, NotDigits}
 use Rattle.text.specs.Questions.{Told, accepted, refused, firstNo, firstBad}
-use Rattle.text.specs.Numerals.{allDigits, value, numeral}
+use Rattle.text.specs.Numerals.{allDigits}
 use Rattle.text.specs.Lines.{lines, firstLine, endsLine}
 use Rattle.text.proofs.Truth.{and-left, and-right}
 use Rattle.text.proofs.QuestionLaws.{first-yes}
 use Rattle.text.proofs.LineLaws.{first-le, first-front, first-ends, first-is, lines-first, digits-no-lf}
-use Rattle.files.specs.MemoryFile.{isWord, lineWord, wordQuestions}
+use Rattle.files.specs.MemoryFile.{isWord, wordQuestions}
 
 -- ---- one line
 
@@ -33,26 +31,44 @@ module _ (k : ℕ) (s : List ℕ) where
         rw (← size, first-front s) (and-right (eqb (length (firstLine s)) k) (allDigits 16 (firstLine s)) e),
       )
 
-  no-word : (isWord k (firstLine s) ≡ true → ⊥) → NotDigits ≡ lineWord k (firstLine s)
-  no-word not = go (isWord k (firstLine s)) refl
+  no-word : (isWord k (firstLine s) ≡ true → ⊥) → false ≡ isWord k (firstLine s)
+  no-word never = go (isWord k (firstLine s)) refl
     where
-      go : (t : Bool) → isWord k (firstLine s) ≡ t → NotDigits ≡ cond t (Value (value 16 (firstLine s))) NotDigits
-      go true e = absurd (not e)
+      go : (t : Bool) → isWord k (firstLine s) ≡ t → false ≡ t
+      go true e = absurd (never e)
       go false e = refl
 
-  -- What `line_word` finds: too few bytes, no end after k of them, or k bytes to read.
-  pub word-short : length s < k → NotDigits ≡ lineWord k (firstLine s)
+  -- What `is_word` finds: too few bytes, no end after k of them, or k bytes to look at.
+  pub word-short : length s < k → false ≡ isWord k (firstLine s)
   word-short h = no-word (λ e. let long = word-form e .1 in omega arith)
 
-  pub word-long : endsLine s k ≡ false → NotDigits ≡ lineWord k (firstLine s)
+  pub word-long : endsLine s k ≡ false → false ≡ isWord k (firstLine s)
   word-long h = no-word (λ e. true≢false (sym (word-form e .2) ∙ h))
 
-  pub word-read : k ≤ length s → endsLine s k ≡ true → numeral 16 (take k s) ≡ lineWord k (firstLine s)
-  word-read h ends = go (allDigits 16 (take k s)) refl
+  pub word-front : k ≤ length s → endsLine s k ≡ true → allDigits 16 (take k s) ≡ isWord k (firstLine s)
+  word-front h ends = go (allDigits 16 (take k s)) refl
     where
-      go : (t : Bool) → allDigits 16 (take k s) ≡ t → cond t (Value (value 16 (take k s))) NotDigits ≡ lineWord k (firstLine s)
+      go : (t : Bool) → allDigits 16 (take k s) ≡ t → t ≡ isWord k (firstLine s)
       go true e = rw (first-is k s h (digits-no-lf 16 (take k s) (omega arith) e) ends, length-take-le k s h, eq-eqb k k refl, e)
       go false e = no-word (λ w. true≢false (sym (word-form w .3) ∙ e))
+
+  -- The digits of a word.
+  pub word-digits : isWord k (firstLine s) ≡ true → take k s ≡ firstLine s
+  word-digits e = rw (← (word-form e .0)) (first-front s)
+
+-- The part of the text that is lent for a word.
+module _ (k : ℕ) (text : List ℕ) (at : ℕ) (good : isWord k (firstLine (drop at text)) ≡ true) where
+  pub word-part : take (at + k - at) (drop at text) ≡ firstLine (drop at text)
+  word-part = let size : at + k - at ≡ k = omega arith in rw size (word-digits k (drop at text) good)
+
+  pub word-all : allDigits 16 (firstLine (drop at text)) ≡ true
+  word-all = and-right (eqb (length (firstLine (drop at text))) k) (allDigits 16 (firstLine (drop at text))) good
+
+  pub word-fits : k ≤ 12 → 16 ^ length (firstLine (drop at text)) ≤ 2 ^ 64
+  word-fits few = rw (word-form k (drop at text) good .0) (pow-le-pow-right {n = 16} (omega arith) {j = 16} (omega arith))
+
+  pub word-inside : at < length text → at + k ≤ length text
+  word-inside h = let long = rw length-drop at (word-form k (drop at text) good .1) in omega arith
 
 -- ---- one line after the other
 
@@ -103,7 +119,7 @@ module _ (k room : ℕ) (text : List ℕ) (at i : ℕ) (h : at < length text) (g
   good-word = answers .1
 
   pub good-fits : at + k ≤ length text
-  good-fits = let long = rw length-drop at (word-form k (drop at text) good-word .1) in omega arith
+  good-fits = word-inside k text at good-word h
 
   pub good-next : firstBad (wordQuestions k room) (i + 1) (lines (drop (at + (k + 1)) text)) (accepted 0) .number ≡ 0
   good-next = rw (check-good k room text at i h good-room good-word) good

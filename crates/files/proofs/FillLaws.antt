@@ -1,9 +1,9 @@
 -- Laws of filling a memory from a good file, over the digit count. Assumes nothing.
 use mathlib.Core.Path.{_≡_, refl, sym, _∙_, ap}
-use mathlib.Core.Bool.{Bool, true, false, cond}
+use mathlib.Core.Bool.{Bool, true}
 use mathlib.Core.List.{List, [], _∷_, _++_, map, append-assoc, append-nil}
 use Prim.Native.Nat.{ℕ, zero, suc, _+_, _-_, _^_, _≤_, _<_}
-use native.Mathlib.Nat.{sub-zero, one-le-pow}
+use native.Mathlib.Nat.{sub-zero}
 use native.Mathlib.Omega.{arith}
 use native.Mathlib.Numerals.{add-one}
 use lib.ListN.{length, take, drop, set, replicate, drop-of-length-le}
@@ -41,10 +41,10 @@ words-cons n i l ls =
 
 module _ (k n : ℕ) (text : List ℕ) (at i : ℕ) where
   pub fill-turn : (m : List ℕ) (v : ℕ) → at < length text → i < length m → isWord k (firstLine (drop at text)) ≡ true
-      → v ≡ cond (isWord k (firstLine (drop at text))) (value 16 (firstLine (drop at text))) 0
+      → v ≡ value 16 (firstLine (drop at text))
       → take (i + 1) (set m i v) ++ fileWords (n - (i + 1)) (lines (drop (at + (k + 1)) text)) ≡ take i m ++ fileWords (n - i) (lines (drop at text))
   fill-turn m v h room good e =
-      rw (next-line k n text at i h good, words-cons, e, good, add-one i, take-suc-set m i _ room, append-assoc)
+      rw (next-line k n text at i h good, words-cons, e, add-one i, take-suc-set m i _ room, append-assoc)
 
   pub fill-end : (m e : List ℕ) → length m ≡ n → length text ≤ at → e ≡ take i m ++ replicate (length m - i) 0
       → e ≡ take i m ++ fileWords (n - i) (lines (drop at text))
@@ -52,9 +52,6 @@ module _ (k n : ℕ) (text : List ℕ) (at i : ℕ) where
   fill-end m e size h q = rw (q, size, drop-of-length-le text h, sub-zero)
 
 -- A word of k digits is below 16 ^ k.
-pub word-lt : (k : ℕ) (l : List ℕ) → cond (isWord k l) (value 16 l) 0 < 16 ^ k
-word-lt k l = go (isWord k l) refl
-  where
-    go : (t : Bool) → isWord k l ≡ t → cond t (value 16 l) 0 < 16 ^ k
-    go true e = rw (← eqb-true (length l) k (and-left (eqb (length l) k) (allDigits 16 l) e)) (value-lt 16 l (and-right (eqb (length l) k) (allDigits 16 l) e))
-    go false e = one-le-pow k 16 (omega arith)
+pub word-lt : (k : ℕ) (l : List ℕ) → isWord k l ≡ true → value 16 l < 16 ^ k
+word-lt k l e =
+    rw (← eqb-true (length l) k (and-left (eqb (length l) k) (allDigits 16 l) e)) (value-lt 16 l (and-right (eqb (length l) k) (allDigits 16 l) e))

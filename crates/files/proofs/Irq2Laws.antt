@@ -2,20 +2,20 @@
 use mathlib.Core.Path.{_≡_, refl, sym, _∙_, ap}
 use mathlib.Core.Bool.{Bool, true, false, cond, _&&_}
 use mathlib.Core.List.{List, [], _∷_, _++_, map}
-use Prim.Native.Nat.{ℕ, zero, suc, _+_, _-_, _≤_, _<_}
-use native.Mathlib.Nat.{add-zero}
+use Prim.Native.Nat.{ℕ, zero, suc, _+_, _-_, _^_, _≤_, _<_}
+use native.Mathlib.Nat.{add-zero, le-trans, pow-le-pow-right}
 use native.Mathlib.Omega.{arith}
 use native.Mathlib.Numerals.{add-one}
 use lib.ListN.{length, getD, take, drop, set, drop-of-length-le}
 use lib.Seq.{drop-drop, getD-drop}
 use lib.Dec.{ltb, leb, leb·zero}
-use borrow.Author.Tests.{lt-ltb, le-ltb, le-leb, lt-leb, ltb-true}
+use borrow.Author.Tests.{lt-ltb, le-ltb, le-leb, lt-leb, ltb-true, leb-true}
 use Rattle.text.specs.Questions.{Told, accepted, refused, firstNo, firstBad}
 use Rattle.text.specs.declared.Numeral.the-variants.{Value, NotDigits}
 use Rattle.text.specs.Numerals.{allDigits, value, numeral}
 use Rattle.text.specs.Lines.{lines, firstLine}
 use Rattle.text.specs.Place.{put}
-use Rattle.text.proofs.Truth.{and-right}
+use Rattle.text.proofs.Truth.{and-left, and-right}
 use Rattle.text.proofs.DigitLaws.{number-yes, number-no, number-value}
 use Rattle.text.proofs.QuestionLaws.{first-yes}
 use Rattle.text.proofs.LineLaws.{lines-at}
@@ -23,6 +23,10 @@ use Rattle.files.specs.Sizes.{cycleLimit}
 use Rattle.files.specs.Irq2File.{isCycle, lineCycle, isAbove, cycleQuestions, irq2Told, fileCycles}
 
 -- ---- one line
+
+-- 13 digits fit 64 bits.
+pub few-fit : (n : ℕ) → n ≤ 13 → 10 ^ n ≤ 2 ^ 64
+few-fit n h = le-trans (pow-le-pow-right {n = 10} (omega arith) h) (omega arith)
 
 module _ (l : List ℕ) (some : 1 ≤ length l) (few : length l ≤ 13) where
   pub cycle-no : numeral 10 l ≡ NotDigits → NotDigits ≡ lineCycle l
@@ -44,6 +48,14 @@ cycle-below l v e =
     let good = number-yes (isCycle l) (value 10 l) v e in
     let is = number-value (isCycle l) (value 10 l) v e in
     rw is (ltb-true (value 10 l) cycleLimit (and-right (leb 1 (length l) && leb (length l) 13 && allDigits 10 l) (ltb (value 10 l) cycleLimit) good))
+
+-- The digits of a cycle, which are few.
+cycle-digits : (l : List ℕ) → isCycle l ≡ true → (allDigits 10 l ≡ true) × (10 ^ length l ≤ 2 ^ 64)
+cycle-digits l e =
+    let form = and-left (leb 1 (length l) && leb (length l) 13 && allDigits 10 l) (ltb (value 10 l) cycleLimit) e in
+    let size = and-left (leb 1 (length l) && leb (length l) 13) (allDigits 10 l) form in
+    let few = leb-true (length l) 13 (and-right (leb 1 (length l)) (leb (length l) 13) size) in
+    (and-right (leb 1 (length l) && leb (length l) 13) (allDigits 10 l) form, few-fit (length l) few)
 
 -- ---- one line after the other
 
@@ -122,14 +134,17 @@ module _ (room : ℕ) (text : List ℕ) (at i e n : ℕ) (h : at < length text) 
   pub cycle-room : i < room
   cycle-room = ltb-true i room (answers .0)
 
+  pub cycle-form : (allDigits 10 (take (e - at) (drop at text)) ≡ true) × (10 ^ length (take (e - at) (drop at text)) ≤ 2 ^ 64)
+  cycle-form = cycle-digits (take (e - at) (drop at text)) (answers .1)
+
   pub cycle-next : firstBad (cycleQuestions room (lines text)) (i + 1) (lines (drop (e + 1) text)) (accepted n) .number ≡ 0
   cycle-next = answers .2
 
   -- The cycle of this line is stored: what is left are those of the lines after it.
-  pub cycle-turn : (m : List ℕ) (v : ℕ) → v ≡ cond (isCycle (take (e - at) (drop at text))) (value 10 (take (e - at) (drop at text))) 0
+  pub cycle-turn : (m : List ℕ) (v : ℕ) → v ≡ value 10 (take (e - at) (drop at text))
       → put (set m i v) (i + 1) (map (value 10) (lines (drop (e + 1) text))) ≡ put m i (map (value 10) (lines (drop at text)))
   unfolding put
-  cycle-turn m v r = rw (r, answers .1, lines-at text at e h q, add-one)
+  cycle-turn m v r = rw (r, lines-at text at e h q, add-one)
 
 pub cycles-end : (text m : List ℕ) (at i : ℕ) → length text ≤ at → m ≡ put m i (map (value 10) (lines (drop at text)))
 unfolding put lines

@@ -1,12 +1,10 @@
 -- "Memory files: one word a line, 12, 8 or 2 hex digits (instructions, words, frame), either case; missing lines are zero. Written: every
 -- word of the slice, capitals." The number of digits is k.
 use Prim.Native.Nat.{ℕ, _-_, _*_}
-use mathlib.Core.Bool.{Bool, cond, _&&_}
+use mathlib.Core.Bool.{Bool, _&&_}
 use mathlib.Core.List.{List, [], _∷_, _++_, map}
 use lib.Dec.{eqb, ltb, leb}
 use lib.ListN.{length, replicate, take, drop}
-use Rattle.text.specs.declared.Numeral.{Numeral}
-use Rattle.text.specs.declared.Numeral.the-variants.{Value, NotDigits}
 use Rattle.text.specs.Questions.{Question, Told, accepted, firstNo, firstBad}
 use Rattle.text.specs.Numerals.{digits, allDigits, value}
 use Rattle.text.specs.Lines.{lines, unlines}
@@ -17,10 +15,6 @@ use Rattle.files.specs.Sizes.{sectorWords}
 -- The line is a word: k hexadecimal digits and nothing else.
 abbrev pub isWord : ℕ → List ℕ → Bool
 isWord k l = eqb (length l) k && allDigits 16 l
-
--- The word that a line is, if it is one.
-abbrev pub lineWord : ℕ → List ℕ → Numeral
-lineWord k l = cond (isWord k l) (Value (value 16 l)) NotDigits
 
 -- "Files, first bad line: a word left for this line? 10. Right digits? 9": the questions asked of the line l that i lines stand before,
 -- where the memory has `room` words.

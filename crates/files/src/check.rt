@@ -1,19 +1,18 @@
 // The questions that are asked of a memory file's lines, before anything is changed.
 use crate::FileRead;
-use text::Numeral;
-use text::digits::read_digits;
+use text::digits::all_digits;
 use text::lines::ends_line;
 ghost use mathlib.Core.Path.{_≡_};
 ghost use Prim.Native.Nat.{_+_, _≤_, _<_};
 ghost use lib.ListN.{length, drop};
 ghost use Rattle.text.specs.Numerals.{DigitValues};
 ghost use Rattle.text.specs.Lines.{firstLine};
-ghost use Rattle.files.specs.MemoryFile.{lineWord, linesTold};
+ghost use Rattle.files.specs.MemoryFile.{isWord, linesTold};
 ghost use Rattle.files.specs.Answers.{fileReadTold};
 
 // Asks each line of the text for k digits, and for a word of the memory, which has `room`.
 pub fn check_words(text: &[u8], k: usize, room: usize, values: &[u8; 256]) -> FileRead
-    requires { ⌜ (0 < k) × ((k ≤ 12) × DigitValues (now values)) ⌝ }
+    requires { ⌜ DigitValues (now values) ⌝ }
     ensures { λ r. ⌜ fileReadTold r ≡ linesTold k room (now (text .entry)) ⌝ }
 {
     let mut at = 0;
@@ -22,26 +21,26 @@ pub fn check_words(text: &[u8], k: usize, room: usize, values: &[u8; 256]) -> Fi
         if room <= i {
             return FileRead::NoWord(i + 1);
         }
-        let Numeral::Value(_) = line_word(text, at, k, values) else {
+        if !is_word(text, at, k, values) {
             return FileRead::BadDigits(i + 1);
-        };
+        }
         at += k + 1;
         i += 1;
     }
     FileRead::Filled
 }
 
-// The word on the line that begins at `at`: all its bytes are k hexadecimal digits.
-pub fn line_word(text: &[u8], at: usize, k: usize, values: &[u8; 256]) -> Numeral
-    requires { ⌜ (at ≤ length (now text)) × ((k ≤ 12) × DigitValues (now values)) ⌝ }
-    ensures { λ r. ⌜ r ≡ lineWord k (firstLine (drop at (now (text .entry)))) ⌝ }
+// Whether the line that begins at `at` is k hexadecimal digits and nothing else.
+fn is_word(text: &[u8], at: usize, k: usize, values: &[u8; 256]) -> bool
+    requires { ⌜ (at ≤ length (now text)) × DigitValues (now values) ⌝ }
+    ensures { λ r. ⌜ r ≡ isWord k (firstLine (drop at (now (text .entry)))) ⌝ }
 {
     if text.len() - at < k {
-        return Numeral::NotDigits;
+        return false;
     }
     let end = at + k;
     if !ends_line(text, end) {
-        return Numeral::NotDigits;
+        return false;
     }
-    read_digits(&text[at..end], 16, values)
+    all_digits(&text[at..end], 16, values)
 }

@@ -1,8 +1,7 @@
 // Good memory files put into memory: a word for each line, zero for each that is missing.
-use crate::check::line_word;
-use text::Numeral;
+use text::digits::value_of;
 ghost use mathlib.Core.Path.{_≡_};
-ghost use mathlib.Core.Bool.{cond};
+ghost use mathlib.Core.Bool.{true};
 ghost use mathlib.Core.List.{_++_};
 ghost use Prim.Native.Nat.{_-_, _^_, _≤_, _<_};
 ghost use lib.ListN.{length, take, drop, replicate};
@@ -11,15 +10,12 @@ ghost use Rattle.text.specs.Lines.{firstLine, lines};
 ghost use Rattle.files.specs.Sizes.{imageDigits, wordDigits, frameDigits};
 ghost use Rattle.files.specs.MemoryFile.{isWord, linesTold, fileWords};
 
-// The number on the line of k digits that begins at `at`; 0 where the line is no such word.
+// The number on the line that begins at `at`, which is k hexadecimal digits.
 fn word(text: &[u8], at: usize, k: usize, values: &[u8; 256]) -> u64
-    requires { ⌜ (at ≤ length (now text)) × ((k ≤ 12) × DigitValues (now values)) ⌝ }
-    ensures { λ r. ⌜ r ≡ cond (isWord k (firstLine (drop at (now (text .entry))))) (value 16 (firstLine (drop at (now (text .entry))))) 0 ⌝ }
+    requires { ⌜ (isWord k (firstLine (drop at (now text))) ≡ true) × ((at < length (now text)) × ((k ≤ 12) × DigitValues (now values))) ⌝ }
+    ensures { λ r. ⌜ r ≡ value 16 (firstLine (drop at (now (text .entry)))) ⌝ }
 {
-    match line_word(text, at, k, values) {
-        Numeral::Value(v) => v,
-        Numeral::NotDigits => 0,
-    }
+    value_of(&text[at..at + k], 16, values)
 }
 
 pub fn fill_image(text: &[u8], image: &mut [u64], values: &[u8; 256])

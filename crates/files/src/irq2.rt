@@ -3,14 +3,14 @@ use crate::CyclesRead;
 use text::Numeral;
 use text::digits::digit_values;
 use text::digits::read_digits;
+use text::digits::value_of;
 use text::lines::line_end;
 ghost use mathlib.Core.Path.{_≡_};
-ghost use mathlib.Core.Bool.{cond};
 ghost use Prim.Native.Nat.{_≤_, _<_};
 ghost use lib.ListN.{length};
-ghost use Rattle.text.specs.Numerals.{DigitValues, value};
+ghost use Rattle.text.specs.Numerals.{DigitValues};
 ghost use Rattle.text.specs.Place.{put};
-ghost use Rattle.files.specs.Irq2File.{isCycle, lineCycle, irq2Told, fileCycles};
+ghost use Rattle.files.specs.Irq2File.{lineCycle, irq2Told, fileCycles};
 ghost use Rattle.files.specs.Answers.{cyclesReadTold};
 ghost use Rattle.files.specs.Promises.{Irq2Read};
 
@@ -85,19 +85,8 @@ fn fill_cycles(text: &[u8], cycles: &mut [u64], values: &[u8; 256])
     let mut i = 0;
     while at < text.len() {
         let end = line_end(text, at);
-        cycles[i] = cycle_of(&text[at..end], values);
+        cycles[i] = value_of(&text[at..end], 10, values);
         at = end + 1;
         i += 1;
-    }
-}
-
-// The cycle that a line is, or 0 where it is none.
-fn cycle_of(line: &[u8], values: &[u8; 256]) -> u64
-    requires { ⌜ DigitValues (now values) ⌝ }
-    ensures { λ r. ⌜ r ≡ cond (isCycle (now (line .entry))) (value 10 (now (line .entry))) 0 ⌝ }
-{
-    match line_cycle(line, values) {
-        Numeral::Value(cycle) => cycle,
-        Numeral::NotDigits => 0,
     }
 }

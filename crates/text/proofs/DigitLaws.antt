@@ -13,8 +13,8 @@ use lib.Dec.{ltb, leb}
 use borrow.Author.Tests.{lt-ltb, le-ltb, le-leb, lt-leb, ltb-true, ltb-false}
 use Rattle.text.specs.declared.Numeral.{Numeral}
 use Rattle.text.specs.declared.Numeral.the-variants.{Value, NotDigits}
-use Rattle.text.specs.Numerals.{digit, digitValue, digits, allDigits, valueAfter, value, numeralAfter, numeral}
-use Rattle.text.proofs.Truth.{and-left, and-right, cond-and}
+use Rattle.text.specs.Numerals.{digit, digitValue, digits, allDigits, valueAfter, value}
+use Rattle.text.proofs.Truth.{and-left, and-right}
 
 -- ---- one digit
 
@@ -101,27 +101,43 @@ value-after-lt b a m (c ∷ s) e h =
 pub value-lt : (b : ℕ) (s : List ℕ) → allDigits b s ≡ true → value b s < b ^ length s
 value-lt b s e = rw one-mul at (value-after-lt b 0 1 s e (omega arith))
 
--- A turn of the reader: one more digit, or none.
-numeral-cons : (b a c : ℕ) (s : List ℕ) → numeralAfter b a (c ∷ s) ≡ cond (ltb (digitValue c) b) (numeralAfter b (a * b + digitValue c) s) NotDigits
-unfolding allDigits valueAfter
-numeral-cons b a c s = cond-and (ltb (digitValue c) b) (allDigits b s) _ _
+-- A turn of the readers, at the byte i.
+module _ (b i : ℕ) (s : List ℕ) (h : i < length s) (d : ℕ) (e : d ≡ digitValue (getD s i 0)) where
+  here : allDigits b (drop i s) ≡ (ltb d b && allDigits b (drop (i + 1) s))
+  unfolding allDigits
+  here = rw (add-one i, drop-cons s i 0 h, e)
 
-module _ (b a i : ℕ) (s : List ℕ) (h : i < length s) where
-  pub read-more : (d : ℕ) → d ≡ digitValue (getD s i 0) → d < b → numeralAfter b (a * b + d) (drop (i + 1) s) ≡ numeralAfter b a (drop i s)
-  read-more d e k = rw (add-one i, drop-cons s i 0 h, numeral-cons, ← e, lt-ltb d b k)
+  pub all-more : d < b → allDigits b (drop (i + 1) s) ≡ allDigits b (drop i s)
+  all-more k = sym (here ∙ rw (lt-ltb d b k))
 
-  pub read-stop : (d : ℕ) → d ≡ digitValue (getD s i 0) → b ≤ d → NotDigits ≡ numeralAfter b a (drop i s)
-  read-stop d e k = rw (drop-cons s i 0 h, numeral-cons, ← e, le-ltb d b k)
+  pub all-stop : b ≤ d → false ≡ allDigits b (drop i s)
+  all-stop k = sym (here ∙ rw (le-ltb d b k))
 
-  -- The number read so far stays below base ^ count, and so within the whole's bound.
-  pub read-fits : (d m : ℕ) → a < b ^ i → d < b → b ^ length s ≤ m → (a * b + d < b ^ (i + 1)) × (b ^ (i + 1) ≤ m)
-  read-fits d m ha hd hm =
+  -- Among digits this byte is one, and those after it are.
+  pub digit-good : allDigits b (drop i s) ≡ true → d < b
+  digit-good all = ltb-true d b (and-left (ltb d b) (allDigits b (drop (i + 1) s)) (sym here ∙ all))
+
+  pub digits-good : allDigits b (drop i s) ≡ true → allDigits b (drop (i + 1) s) ≡ true
+  digits-good all = and-right (ltb d b) (allDigits b (drop (i + 1) s)) (sym here ∙ all)
+
+  pub value-more : (a : ℕ) → valueAfter b (a * b + d) (drop (i + 1) s) ≡ valueAfter b a (drop i s)
+  unfolding valueAfter
+  value-more a = rw (add-one i, drop-cons s i 0 h, e)
+
+  -- The number so far stays below base ^ count, and so within the whole's bound.
+  pub value-fits : (a m : ℕ) → a < b ^ i → d < b → b ^ length s ≤ m → (a * b + d < b ^ (i + 1)) × (b ^ (i + 1) ≤ m)
+  value-fits a m ha hd hm =
       (rw (add-one, pow-suc) (digits-lt ha hd), le-trans (rw add-one (pow-le-pow-right (lt-of-le-of-lt zero-le hd) h)) hm)
 
 -- No byte is left.
-pub read-end : (b a i : ℕ) (s : List ℕ) → length s ≤ i → Value a ≡ numeralAfter b a (drop i s)
-unfolding allDigits valueAfter
-read-end b a i s h = rw (drop-of-length-le s h)
+module _ (b i : ℕ) (s : List ℕ) (h : length s ≤ i) where
+  pub all-end : true ≡ allDigits b (drop i s)
+  unfolding allDigits
+  all-end = rw (drop-of-length-le s h)
+
+  pub value-end : (a : ℕ) → a ≡ valueAfter b a (drop i s)
+  unfolding valueAfter
+  value-end a = rw (drop-of-length-le s h)
 
 -- ---- an answer that is a number where a test holds
 

@@ -4,7 +4,7 @@ use Prim.Native.Nat.{ℕ, _+_, _-_, _≤_}
 use native.Mathlib.Omega.{arith}
 use lib.Dec.{leb}
 use borrow.Author.Tests.{le-leb, lt-leb, leb-true, leb-false}
-use mathlib.Core.Bool.{Bool, true, false, cond, _&&_, false≢true}
+use mathlib.Core.Bool.{Bool, true, false, _&&_, false≢true}
 
 pub and-left : (a b : Bool) → (a && b) ≡ true → a ≡ true
 and-left true b e = refl
@@ -13,10 +13,6 @@ and-left false b e = e
 pub and-right : (a b : Bool) → (a && b) ≡ true → b ≡ true
 and-right true b e = e
 and-right false b e = absurd (false≢true e)
-
-pub cond-and {ℓ} : {A : Type ℓ} (a b : Bool) (x y : A) → cond (a && b) x y ≡ cond a (cond b x y) y
-cond-and true b x y = refl
-cond-and false b x y = refl
 
 -- A difference compared is a sum compared.
 pub leb-sub : (a p n : ℕ) → p ≤ n → leb a (n - p) ≡ leb (p + a) n

@@ -43,12 +43,9 @@ valueAfter b acc (c ∷ cs) = valueAfter b (acc * b + digitValue c) cs
 abbrev pub value : ℕ → List ℕ → ℕ
 value b cs = valueAfter b 0 cs
 
--- What reading digits of base b answers, where those before them stand for `acc`.
-abbrev pub numeralAfter : ℕ → ℕ → List ℕ → Numeral
-numeralAfter b acc cs = cond (allDigits b cs) (Value (valueAfter b acc cs)) NotDigits
-
+-- What reading bytes as digits of base b answers.
 abbrev pub numeral : ℕ → List ℕ → Numeral
-numeral b cs = numeralAfter b 0 cs
+numeral b cs = cond (allDigits b cs) (Value (value b cs)) NotDigits
 
 -- ---- no leading zeros
 

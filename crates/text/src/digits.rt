@@ -1,9 +1,10 @@
 // Digits of a base from 2 to 16, one by one and by tables that are filled once and lent.
 use crate::Numeral;
 ghost use mathlib.Core.Path.{_≡_};
+ghost use mathlib.Core.Bool.{true};
 ghost use Prim.Native.Nat.{_+_, _*_, _/_, _%_, _^_, _≤_, _<_};
-ghost use lib.ListN.{length};
-ghost use Rattle.text.specs.Numerals.{digit as digitOf, digitValue, digits, numeral, DigitValues, HexPairs};
+ghost use lib.ListN.{length, getD};
+ghost use Rattle.text.specs.Numerals.{digit as digitOf, digitValue, digits, allDigits, value, numeral, DigitValues, HexPairs};
 ghost use Rattle.text.specs.Place.{put};
 
 // The byte of a digit from 0 to 15, in capitals.
@@ -86,22 +87,52 @@ pub fn put_pair(out: &mut [u8], at: usize, n: usize, pairs: &[u16; 256])
     out[at + 1] = (pair / 256 % 256) as u8;
 }
 
-// Reads all bytes of a part as digits of a base.
-pub fn read_digits(s: &[u8], base: u64, values: &[u8; 256]) -> Numeral
-    requires { ⌜ (base ≤ 16) × ((base ^ length (now s) ≤ 2 ^ 64) × DigitValues (now values)) ⌝ }
-    ensures { λ r. ⌜ r ≡ numeral base (now (s .entry)) ⌝ }
+// Whether all bytes of a part are digits of a base.
+pub fn all_digits(s: &[u8], base: u64, values: &[u8; 256]) -> bool
+    requires { ⌜ DigitValues (now values) ⌝ }
+    ensures { λ r. ⌜ r ≡ allDigits base (now (s .entry)) ⌝ }
 {
-    let mut acc: u64 = 0;
     let mut i = 0;
     while i < s.len() {
-        let d = wide(values[index(s[i])]);
-        if base <= d {
-            return Numeral::NotDigits;
+        if base <= digit_at(s, i, values) {
+            return false;
         }
-        acc = acc * base + d;
         i += 1;
     }
-    Numeral::Value(acc)
+    true
+}
+
+// The number that the digits of a part stand for.
+pub fn value_of(s: &[u8], base: u64, values: &[u8; 256]) -> u64
+    requires { ⌜ (allDigits base (now s) ≡ true) × ((base ^ length (now s) ≤ 2 ^ 64) × DigitValues (now values)) ⌝ }
+    ensures { λ r. ⌜ r ≡ value base (now (s .entry)) ⌝ }
+{
+    let mut acc = 0;
+    let mut i = 0;
+    while i < s.len() {
+        acc = acc * base + digit_at(s, i, values);
+        i += 1;
+    }
+    acc
+}
+
+// Reads all bytes of a part as digits of a base.
+pub fn read_digits(s: &[u8], base: u64, values: &[u8; 256]) -> Numeral
+    requires { ⌜ (base ^ length (now s) ≤ 2 ^ 64) × DigitValues (now values) ⌝ }
+    ensures { λ r. ⌜ r ≡ numeral base (now (s .entry)) ⌝ }
+{
+    if all_digits(s, base, values) {
+        return Numeral::Value(value_of(s, base, values));
+    }
+    Numeral::NotDigits
+}
+
+// What the byte at i is worth as a digit.
+fn digit_at(s: &[u8], i: usize, values: &[u8; 256]) -> u64
+    requires { ⌜ (i < length (now s)) × DigitValues (now values) ⌝ }
+    ensures { λ r. ⌜ r ≡ digitValue (getD (now (s .entry)) i 0) ⌝ }
+{
+    wide(values[index(s[i])])
 }
 
 fn wide(x: u8) -> u64

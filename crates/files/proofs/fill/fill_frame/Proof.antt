@@ -48,11 +48,17 @@ loop-holds c = (rw sub-zero, c .before .before .pre .0, refl, omega arith, omega
 
 -- src/fill.rt:83:20
 word-requires : tie.Need-word-requires Inv-loop μ-loop
-word-requires c κs = (omega arith, (omega arith, c .before .before .before .before .pre .1))
+word-requires c κs =
+    let l = c .before .loop in
+    let a = c .before .before .before .before .args in
+    (good-word 2 (length (a .frame .now)) (a .text .now) (l .at) (l .i) (c .loop-test .taken) (l .inv .1), (c .loop-test .taken, (omega arith, c .before .before .before .before .pre .1)))
 
 -- src/fill.rt:83:20
 cast-frame : tie.Need-cast-frame Inv-loop μ-loop
-cast-frame c = record { fits = rw (c .word .ensures) (word-lt 2 (firstLine (drop (c .before .before .loop .at) (c .before .before .before .before .before .args .text .now)))) }
+cast-frame c =
+    let l = c .before .before .loop in
+    let a = c .before .before .before .before .before .args in
+    record { fits = rw (c .word .ensures) (word-lt 2 (firstLine (drop (l .at) (a .text .now))) (good-word 2 (length (a .frame .now)) (a .text .now) (l .at) (l .i) (c .before .loop-test .taken) (l .inv .1))) }
 
 -- src/fill.rt:83:9
 slice-write-frame : tie.Need-slice-write-frame Inv-loop μ-loop

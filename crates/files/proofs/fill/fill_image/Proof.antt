@@ -48,7 +48,10 @@ loop-holds c = (rw sub-zero, c .before .before .pre .0, refl, omega arith, omega
 
 -- src/fill.rt:33:20
 word-requires : tie.Need-word-requires Inv-loop μ-loop
-word-requires c κs = (omega arith, (omega arith, c .before .before .before .before .pre .1))
+word-requires c κs =
+    let l = c .before .loop in
+    let a = c .before .before .before .before .args in
+    (good-word 12 (length (a .image .now)) (a .text .now) (l .at) (l .i) (c .loop-test .taken) (l .inv .1), (c .loop-test .taken, (omega arith, c .before .before .before .before .pre .1)))
 
 -- src/fill.rt:33:9
 mul-image : tie.Need-mul-image Inv-loop μ-loop

@@ -48,11 +48,17 @@ loop-holds c = (rw sub-zero, c .before .before .pre .0, refl, omega arith, omega
 
 -- src/fill.rt:58:21
 word-requires : tie.Need-word-requires Inv-loop μ-loop
-word-requires c κs = (omega arith, (omega arith, c .before .before .before .before .pre .1))
+word-requires c κs =
+    let l = c .before .loop in
+    let a = c .before .before .before .before .args in
+    (good-word 8 (length (a .memory .now)) (a .text .now) (l .at) (l .i) (c .loop-test .taken) (l .inv .1), (c .loop-test .taken, (omega arith, c .before .before .before .before .pre .1)))
 
 -- src/fill.rt:58:21
 cast-memory : tie.Need-cast-memory Inv-loop μ-loop
-cast-memory c = record { fits = rw (c .word .ensures) (word-lt 8 (firstLine (drop (c .before .before .loop .at) (c .before .before .before .before .before .args .text .now)))) }
+cast-memory c =
+    let l = c .before .before .loop in
+    let a = c .before .before .before .before .before .args in
+    record { fits = rw (c .word .ensures) (word-lt 8 (firstLine (drop (l .at) (a .text .now))) (good-word 8 (length (a .memory .now)) (a .text .now) (l .at) (l .i) (c .before .loop-test .taken) (l .inv .1))) }
 
 -- src/fill.rt:58:9
 mul-memory : tie.Need-mul-memory Inv-loop μ-loop

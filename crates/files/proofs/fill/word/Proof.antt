@@ -1,41 +1,54 @@
-use lib.ListN.{drop}
-use Rattle.text.specs.Lines.{firstLine}
-use mathlib.Core.Path.{_∙_, sym}
+use mathlib.Core.Path.{_∙_, ap}
+use native.Mathlib.Omega.{arith}
 use Rattle.text.specs.Numerals.{value}
-use Rattle.text.proofs.DigitLaws.{number-is, number-none}
-use Rattle.files.specs.MemoryFile.{isWord}
+use Rattle.files.proofs.CheckLaws.{word-part, word-all, word-fits, word-inside}
 use borrow.Author.Needs.{needs}
 use Rattle.files.proofs.fill.word.Statement.{statement}
 use Rattle.files.proofs.fill.word.Tie as tie
 use Rattle.files.proofs.fill.word.Reads as reads
 use Rattle.files.proofs.fill.word.Lts as lts
-use Rattle.files.proofs.check.line_word.Reads as line-word-reads
+use Rattle.text.proofs.digits.value_of.Reads as value-of-reads
 
--- src/fill.rt:20:11
-line-word-requires : tie.Need-line-word-requires
-line-word-requires c κs = search needs
+-- src/fill.rt:18:24
+add-value-of : tie.Need-add-value-of
+add-value-of c = search needs
 
--- src/fill.rt:21:24
-enum-known-v : tie.Need-enum-known-v
-enum-known-v c = search needs
+-- src/fill.rt:18:14
+sub-value-of : tie.Need-sub-value-of
+sub-value-of c = search needs
 
--- src/fill.rt:22:31
-enum-told : tie.Need-enum-told
-enum-told c = search needs
+-- src/fill.rt:18:14
+part-value-of-start : tie.Need-part-value-of-start
+part-value-of-start c = search needs
 
--- src/fill.rt:16:1
+-- src/fill.rt:18:14
+part-value-of-end : tie.Need-part-value-of-end
+part-value-of-end c =
+    let a = c .before .args in
+    let p = c .before .pre in
+    omega (arith, word-inside (a .k) (a .text .now) (a .at) (p .0) (p .1 .0))
+
+-- src/fill.rt:18:5
+value-of-requires : tie.Need-value-of-requires
+value-of-requires c κs =
+    let a = c .before .before .args in
+    let p = c .before .before .pre in
+    rw (word-part (a .k) (a .text .now) (a .at) (p .0))
+    (word-all (a .k) (a .text .now) (a .at) (p .0), (word-fits (a .k) (a .text .now) (a .at) (p .0) (p .1 .1 .0), p .1 .1 .1))
+
+-- src/fill.rt:14:1
 returns : tie.Need-returns
 returns c =
-    let a = c .before .before .before .before .before .args in
-    let line = firstLine (drop (a .at) (a .text .now)) in
-    number-is (isWord (a .k) line) (value 16 line) _ (sym (c .before .before .before .line-word .ensures) ∙ c .before .v .given .1)
-
--- src/fill.rt:16:1
-returns-2 : tie.Need-returns-2
-returns-2 c =
-    let a = c .before .before .before .before .args in
-    let line = firstLine (drop (a .at) (a .text .now)) in
-    number-none (isWord (a .k) line) (value 16 line) (sym (c .before .before .line-word .ensures) ∙ c .enum-told .given .1)
+    let a = c .before .before .before .args in
+    c .value-of .ensures ∙ ap (value 16) (word-part (a .k) (a .text .now) (a .at) (c .before .before .before .pre .0))
 
 pub word-spec : {M : Type 1} → statement M
-word-spec = tie.close (tie.spec line-word-requires enum-known-v enum-told returns returns-2)
+word-spec =
+    tie.close
+    (tie.spec
+    add-value-of
+    sub-value-of
+    part-value-of-start
+    part-value-of-end
+    value-of-requires
+    returns)

@@ -8,12 +8,12 @@ use Rattle.text.specs.Numerals.{value}
 use Rattle.text.specs.Lines.{lines}
 use Rattle.text.specs.Place.{put}
 use Rattle.files.specs.Irq2File.{cycleQuestions, irq2Told, fileCycles}
-use Rattle.files.proofs.Irq2Laws.{cycle-room, cycle-next, cycle-turn, cycles-end}
+use Rattle.files.proofs.Irq2Laws.{cycle-room, cycle-form, cycle-next, cycle-turn, cycles-end}
 use Rattle.files.proofs.irq2.fill_cycles.Statement.{statement}
 use Rattle.files.proofs.irq2.fill_cycles.Tie as tie
 use Rattle.files.proofs.irq2.fill_cycles.Reads as reads
 use Rattle.files.proofs.irq2.fill_cycles.Lts as lts
-use Rattle.files.proofs.irq2.cycle_of.Reads as cycle-of-reads
+use Rattle.text.proofs.digits.value_of.Reads as value-of-reads
 use Rattle.text.proofs.lines.line_end.Reads as line-end-reads
 
 abbrev Inv-loop : tie.InvT-loop
@@ -27,59 +27,64 @@ abbrev μ-loop : tie.MeasureT-loop
 μ-loop text cycles₀ values at₀ i₀ cycles at i = length text + 1 - at
 
 -- A word is left for this line.
-fill-room : (c : tie.After-cycle-of Inv-loop μ-loop) → c .before .before .before .before .loop .i < length (c .before .before .before .before .before .before .before .args .cycles .now)
+fill-room : (c : tie.After-value-of Inv-loop μ-loop) → c .before .before .before .before .loop .i < length (c .before .before .before .before .before .before .before .args .cycles .now)
 fill-room c =
     let l = c .before .before .before .before .loop in
     let a = c .before .before .before .before .before .before .before .args in
     let e = c .before .before .line-end in
     cycle-room (length (a .cycles .now)) (a .text .now) (l .at) (l .i) (e .result) (length (lines (a .text .now))) (c .before .before .before .loop-test .taken) (e .ensures .0) (l .inv .1)
 
--- src/irq2.rt:88:5
+-- src/irq2.rt:86:5
 loop-holds : tie.Need-loop-holds Inv-loop μ-loop
 unfolding irq2Told
 loop-holds c = (refl, c .before .before .pre .0, refl, omega arith)
 
--- src/irq2.rt:89:13
+-- src/irq2.rt:87:13
 line-end-requires : tie.Need-line-end-requires Inv-loop μ-loop
 line-end-requires c κs = omega arith
 
--- src/irq2.rt:90:30
-sub-cycle-of : tie.Need-sub-cycle-of Inv-loop μ-loop
-sub-cycle-of c = omega arith
+-- src/irq2.rt:88:30
+sub-value-of : tie.Need-sub-value-of Inv-loop μ-loop
+sub-value-of c = omega arith
 
--- src/irq2.rt:90:30
-part-cycle-of-start : tie.Need-part-cycle-of-start Inv-loop μ-loop
-part-cycle-of-start c = omega arith
+-- src/irq2.rt:88:30
+part-value-of-start : tie.Need-part-value-of-start Inv-loop μ-loop
+part-value-of-start c = omega arith
 
--- src/irq2.rt:90:30
-part-cycle-of-end : tie.Need-part-cycle-of-end Inv-loop μ-loop
-part-cycle-of-end c = omega arith
+-- src/irq2.rt:88:30
+part-value-of-end : tie.Need-part-value-of-end Inv-loop μ-loop
+part-value-of-end c = omega arith
 
--- src/irq2.rt:90:21
-cycle-of-requires : tie.Need-cycle-of-requires Inv-loop μ-loop
-cycle-of-requires c κs = c .before .before .before .before .before .before .pre .1
+-- src/irq2.rt:88:21
+value-of-requires : tie.Need-value-of-requires Inv-loop μ-loop
+value-of-requires c κs =
+    let l = c .before .before .before .loop in
+    let a = c .before .before .before .before .before .before .args in
+    let e = c .before .line-end in
+    let form = cycle-form (length (a .cycles .now)) (a .text .now) (l .at) (l .i) (e .result) (length (lines (a .text .now))) (c .before .before .loop-test .taken) (e .ensures .0) (l .inv .1) in
+    (form .0, (form .1, c .before .before .before .before .before .before .pre .1))
 
--- src/irq2.rt:90:9
+-- src/irq2.rt:88:9
 mul-cycles : tie.Need-mul-cycles Inv-loop μ-loop
 mul-cycles c = let room = fill-room c in omega arith
 
--- src/irq2.rt:90:9
+-- src/irq2.rt:88:9
 slice-write-cycles : tie.Need-slice-write-cycles Inv-loop μ-loop
 slice-write-cycles c = let room = fill-room c in omega arith
 
--- src/irq2.rt:91:14
+-- src/irq2.rt:89:14
 add-at : tie.Need-add-at Inv-loop μ-loop
 add-at c = omega arith
 
--- src/irq2.rt:92:9
+-- src/irq2.rt:90:9
 add-i : tie.Need-add-i Inv-loop μ-loop
 add-i c = let room = fill-room c in omega arith
 
--- src/irq2.rt:88:5
+-- src/irq2.rt:86:5
 loop-less : tie.Need-loop-less Inv-loop μ-loop
 loop-less c = omega arith
 
--- src/irq2.rt:88:5
+-- src/irq2.rt:86:5
 loop-again : tie.Need-loop-again Inv-loop μ-loop
 loop-again c =
     let l = c .before .before .before .before .loop in
@@ -87,17 +92,17 @@ loop-again c =
     let e = c .before .before .line-end in
     let inside = c .before .before .before .loop-test .taken in
     let n = length (lines (a .text .now)) in (
-      cycle-turn (length (a .cycles .now)) (a .text .now) (l .at) (l .i) (e .result) n inside (e .ensures .0) (l .inv .1) (l .cycles) _ (c .cycle-of .ensures) ∙ l .inv .0,
+      cycle-turn (length (a .cycles .now)) (a .text .now) (l .at) (l .i) (e .result) n inside (e .ensures .0) (l .inv .1) (l .cycles) _ (c .value-of .ensures) ∙ l .inv .0,
       cycle-next (length (a .cycles .now)) (a .text .now) (l .at) (l .i) (e .result) n inside (e .ensures .0) (l .inv .1),
       simp length-set (l .inv .2),
       omega arith,
     )
 
--- src/irq2.rt:82:1
+-- src/irq2.rt:80:1
 same-length : tie.Need-same-length Inv-loop μ-loop
 same-length c = c .before .loop .inv .2
 
--- src/irq2.rt:82:1
+-- src/irq2.rt:80:1
 returns : tie.Need-returns Inv-loop μ-loop
 returns c =
     let l = c .before .loop in
@@ -111,10 +116,10 @@ fill-cycles-spec =
     μ-loop
     loop-holds
     line-end-requires
-    sub-cycle-of
-    part-cycle-of-start
-    part-cycle-of-end
-    cycle-of-requires
+    sub-value-of
+    part-value-of-start
+    part-value-of-end
+    value-of-requires
     mul-cycles
     slice-write-cycles
     add-at

@@ -1,3 +1,4 @@
+use Rattle.files.proofs.Irq2Laws.{few-fit}
 use Rattle.files.proofs.Irq2Laws.{cycle-no, cycle-yes, cycle-over}
 use mathlib.Core.Path.{_≡_, sym, _∙_, ap}
 use Prim.Native.Nat.{_^_, _≤_}
@@ -22,9 +23,7 @@ returns-2 c = rw (le-leb _ _ (c .before .if1 .left), lt-leb _ _ (c .if2 .taken))
 
 -- src/irq2.rt:72:33
 read-digits-requires : tie.Need-read-digits-requires
-read-digits-requires c κs =
-    let most : 10 ^ length (c .before .before .before .args .line .now) ≤ 10 ^ 13 = pow-le-pow-right {n = 10} (omega arith) (c .if2 .left) in
-    (omega arith, (le-trans most (omega arith), c .before .before .before .pre))
+read-digits-requires c κs = (few-fit _ (c .if2 .left), c .before .before .before .pre)
 
 -- src/irq2.rt:72:24
 enum-known-cycle : tie.Need-enum-known-cycle

@@ -1,0 +1,43 @@
+// F10, F11, F13: parts of a disk whose every word is 0xBE are written into 4,096 bytes. Each line shows the first sector's last digit and
+// LF, and the byte after the third sector.
+use crate::say::end;
+use crate::say::say_written;
+use crate::say::show;
+use files::write_disk;
+
+fn try_part(point: &[u8], first: usize, sectors: usize, room: usize) {
+    let disk = [0xBEu32; 16384];
+    let mut text = [b'.'; 4096];
+    write_part(point, &disk, first, sectors, room, &mut text);
+    show_bytes(text);
+}
+
+fn write_part(
+    point: &[u8],
+    disk: &[u32],
+    first: usize,
+    sectors: usize,
+    room: usize,
+    text: &mut [u8],
+) {
+    if room <= text.len() {
+        say_written(point, write_disk(disk, first, sectors, &mut text[0..room]));
+    }
+}
+
+fn show_bytes(text: [u8; 4096]) {
+    show(text[1150] as u64);
+    show(text[1151] as u64);
+    show(text[3456] as u64);
+    end();
+}
+
+pub fn disk() {
+    try_part(b"F13 no sector", 0, 0, 4096);
+    try_part(b"F13 past the disk", 127, 2, 4096);
+    try_part(b"F13 far past the disk", 18446744073709551615, 2, 4096);
+    try_part(b"F13 last sectors", 125, 3, 4096);
+    try_part(b"F11 no room", 0, 4, 4096);
+    try_part(b"F11 one byte short", 0, 1, 1151);
+    try_part(b"F11 exact room", 0, 1, 1152);
+}

@@ -1,23 +1,23 @@
 -- How each answer meets its promise. Assumes nothing.
-use mathlib.Core.Path.{_≡_, refl, sym, _∙_, ap}
-use mathlib.Core.Bool.{Bool, true, false, cond}
-use mathlib.Core.List.{List}
 use Prim.Native.Nat.{ℕ, _≤_, _<_}
+use mathlib.Core.Path.{_≡_}
+use mathlib.Core.Bool.{Bool, true, false}
+use mathlib.Core.List.{List}
 use lib.ListN.{length}
 use lib.Dec.{eqb}
 use borrow.Author.Tests.{le-leb, lt-leb}
-use Rattle.text.specs.Questions.{Told, accepted, refused, unlessRefused}
+use Rattle.text.specs.Questions.{accepted, refused}
 use Rattle.text.specs.Lines.{lines}
 use Rattle.text.specs.Place.{put}
 use Rattle.files.specs.declared.FileRead.{FileRead}
-use Rattle.files.specs.declared.FileRead.the-variants as FileRead
 use Rattle.files.specs.declared.CyclesRead.{CyclesRead}
 use Rattle.files.specs.declared.Written.{Written}
-use Rattle.files.specs.declared.Written.the-variants as Written
 use Rattle.files.specs.MemoryFile.{linesTold, readTold, fileWords}
 use Rattle.files.specs.Irq2File.{irq2Told, fileCycles}
 use Rattle.files.specs.Answers.{fileReadTold, cyclesReadTold}
 use Rattle.files.specs.Promises.{MemoryRead, Irq2Read, TextWritten}
+use Rattle.files.specs.declared.FileRead.the-variants as FileRead
+use Rattle.files.specs.declared.Written.the-variants as Written
 
 -- ---- writers
 

@@ -1,8 +1,8 @@
 -- Laws of filling a memory from a good file, over the digit count. Assumes nothing.
-use mathlib.Core.Path.{_≡_, refl, sym, _∙_, ap}
-use mathlib.Core.Bool.{Bool, true}
-use mathlib.Core.List.{List, [], _∷_, _++_, map, append-assoc, append-nil}
 use Prim.Native.Nat.{ℕ, zero, suc, _+_, _-_, _^_, _≤_, _<_}
+use mathlib.Core.Path.{_≡_}
+use mathlib.Core.Bool.{true}
+use mathlib.Core.List.{List, _∷_, _++_, append-assoc, append-nil}
 use native.Mathlib.Nat.{sub-zero}
 use native.Mathlib.Omega.{arith}
 use native.Mathlib.Numerals.{add-one}
@@ -10,13 +10,12 @@ use lib.ListN.{length, take, drop, set, replicate, drop-of-length-le}
 use lib.Seq.{take-suc-set, take-all}
 use lib.Dec.{eqb}
 use borrow.Author.Tests.{eqb-true}
-use Rattle.text.specs.Questions.{Told, accepted, firstBad}
 use Rattle.text.specs.Numerals.{allDigits, value}
 use Rattle.text.specs.Lines.{lines, firstLine}
 use Rattle.text.proofs.Truth.{and-left, and-right}
 use Rattle.text.proofs.DigitLaws.{value-lt}
-use Rattle.files.specs.MemoryFile.{isWord, wordQuestions, fileWords}
-use Rattle.files.proofs.CheckLaws.{next-line, good-word}
+use Rattle.files.specs.MemoryFile.{isWord, fileWords}
+use Rattle.files.proofs.CheckLaws.{next-line}
 
 -- ---- zero for the missing lines
 

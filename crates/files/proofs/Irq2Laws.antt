@@ -1,8 +1,8 @@
 -- Laws of the questions asked of an irq2 file's lines. Assumes nothing.
-use mathlib.Core.Path.{_≡_, refl, sym, _∙_, ap}
-use mathlib.Core.Bool.{Bool, true, false, cond, _&&_}
-use mathlib.Core.List.{List, [], _∷_, _++_, map}
 use Prim.Native.Nat.{ℕ, zero, suc, _+_, _-_, _^_, _≤_, _<_}
+use mathlib.Core.Path.{_≡_, refl, sym, _∙_, ap}
+use mathlib.Core.Bool.{true, false, _&&_}
+use mathlib.Core.List.{List, [], _∷_, map}
 use native.Mathlib.Nat.{add-zero, le-trans, pow-le-pow-right}
 use native.Mathlib.Omega.{arith}
 use native.Mathlib.Numerals.{add-one}
@@ -20,7 +20,7 @@ use Rattle.text.proofs.DigitLaws.{number-yes, number-no, number-value}
 use Rattle.text.proofs.QuestionLaws.{first-yes}
 use Rattle.text.proofs.LineLaws.{lines-at}
 use Rattle.files.specs.Sizes.{cycleLimit}
-use Rattle.files.specs.Irq2File.{isCycle, lineCycle, isAbove, cycleQuestions, irq2Told, fileCycles}
+use Rattle.files.specs.Irq2File.{isCycle, lineCycle, isAbove, cycleQuestions}
 
 -- ---- one line
 

@@ -1,20 +1,18 @@
 -- The return trip: "a .. written memory reads back the same". For every memory of the right length writing succeeds where there is room, and
 -- reading the text into any slice of that length succeeds and gives the memory back. Assumes nothing.
+use Prim.Native.Nat.{ℕ, suc, _+_, _-_, _*_, _%_, _^_, _≤_, _<_, zero-le}
 use mathlib.Core.Path.{_≡_, refl, sym, _∙_, ap}
 use mathlib.Core.Bool.{Bool, true, false}
-use mathlib.Core.List.{List, [], _∷_, _++_, map, append-nil}
-use Prim.Native.Nat.{ℕ, zero, suc, _+_, _-_, _*_, _%_, _^_, _≤_, _<_, zero-le}
+use mathlib.Core.List.{List, [], _∷_, map, append-nil}
 use native.Mathlib.Nat.{mod-eq-of-lt, le-refl, le-trans, lt-of-le-of-lt, min-le-left, zero-add}
 use native.Mathlib.Omega.{arith}
-use native.Mathlib.Numerals.{add-one}
 use lib.ListN.{length, getD, take, drop, length-map, length-take, List·getD-eq-default}
 use lib.Seq.{take-append-seam, drop-append-seam, getD-take, getD-drop}
-use lib.Dec.{eqb, ltb}
+use lib.Dec.{ltb}
 use borrow.Author.Tests.{lt-ltb, ltb-true, ltb-false, le-leb, eq-eqb}
 use Rattle.text.specs.Questions.{Told, accepted, firstBad}
-use Rattle.text.specs.Numerals.{digits, allDigits, value}
-use Rattle.text.specs.Lines.{lines, unlines}
-use Rattle.text.specs.Place.{put}
+use Rattle.text.specs.Numerals.{digits, value}
+use Rattle.text.specs.Lines.{lines}
 use Rattle.text.proofs.DigitLaws.{length-digits, all-written, value-written}
 use Rattle.text.proofs.LineLaws.{lines-unlines, written-no-lf}
 use Rattle.text.proofs.PutLaws.{put-front}
@@ -22,8 +20,8 @@ use Rattle.files.proofs.LayLaws.{length-text}
 use Rattle.files.proofs.SizeLaws.{length-part, length-sectors, is-part}
 use Rattle.files.specs.declared.FileRead.{FileRead}
 use Rattle.files.specs.declared.Written.{Written}
-use Rattle.files.specs.Sizes.{isImage, isData, isFrame, isPart, isPartOf, imageDigits, wordDigits, frameDigits}
-use Rattle.files.specs.MemoryFile.{isWord, wordQuestions, linesTold, readTold, writeTold, fileWords, fileText, sectorsOf}
+use Rattle.files.specs.Sizes.{isImage, isData, isFrame, isPart, isPartOf}
+use Rattle.files.specs.MemoryFile.{isWord, wordQuestions, linesTold, readTold, fileWords, fileText, sectorsOf}
 use Rattle.files.specs.Answers.{fileReadTold, writtenTold}
 use Rattle.files.specs.Promises.{MemoryRead, TextWritten}
 

@@ -1,10 +1,10 @@
 -- What each answer tells: document 01's number, the place and the count.
 use Rattle.text.specs.Questions.{Told, accepted, refused}
 use Rattle.files.specs.declared.FileRead.{FileRead}
-use Rattle.files.specs.declared.FileRead.the-variants as FileRead
 use Rattle.files.specs.declared.CyclesRead.{CyclesRead}
-use Rattle.files.specs.declared.CyclesRead.the-variants as CyclesRead
 use Rattle.files.specs.declared.Written.{Written}
+use Rattle.files.specs.declared.FileRead.the-variants as FileRead
+use Rattle.files.specs.declared.CyclesRead.the-variants as CyclesRead
 use Rattle.files.specs.declared.Written.the-variants as Written
 
 abbrev pub fileReadTold : FileRead → Told

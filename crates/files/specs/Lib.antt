@@ -4,3 +4,4 @@ pub mod MemoryFile
 pub mod Irq2File
 pub mod Answers
 pub mod Promises
+pub mod Examples

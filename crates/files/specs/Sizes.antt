@@ -1,5 +1,5 @@
 -- The lengths that document 01 names, and question 1.
-use Prim.Native.Nat.{ℕ, _+_, _*_, _%_, _^_, _-_}
+use Prim.Native.Nat.{ℕ, _+_, _%_, _^_, _-_}
 use mathlib.Core.Bool.{Bool, _&&_}
 use lib.Dec.{eqb, leb, ltb}
 

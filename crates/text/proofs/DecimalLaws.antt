@@ -1,15 +1,13 @@
 -- Laws of numerals without leading zeros, over the base. Assumes nothing.
-use mathlib.Core.Path.{_≡_, refl, sym, _∙_, ap}
+use Prim.Native.Nat.{ℕ, zero, suc, _-_, _/_, _^_, _≤_, _<_, zero-le}
+use mathlib.Core.Path.{_≡_, refl, _∙_, ap}
 use mathlib.Core.Bool.{Bool, true, false, cond}
-use mathlib.Core.List.{List, [], _∷_, _++_}
-use Prim.Native.Nat.{ℕ, zero, suc, _+_, _-_, _*_, _/_, _%_, _^_, _≤_, _<_, zero-le}
-use native.Mathlib.Nat.{le-refl, le-trans, lt-of-lt-of-le, div-lt-self, zero-div, zero-lt-suc, le-of-lt, not-le-of-lt, pow-le-pow-right, not-suc-le-zero, le-of-suc-le-suc, pow-suc, div-lt-iff-lt-mul, le-div-iff-mul-le, mod-eq-of-lt, pow-zero, one-mul}
+use native.Mathlib.Nat.{le-refl, le-trans, div-lt-self, zero-div, zero-lt-suc, le-of-lt, not-le-of-lt, pow-le-pow-right, le-of-suc-le-suc, pow-suc, div-lt-iff-lt-mul, le-div-iff-mul-le, mod-eq-of-lt, pow-zero, one-mul}
 use native.Mathlib.Omega.{arith}
-use native.Mathlib.Numerals.{add-one, sub-one}
 use lib.ListN.{length}
 use lib.Dec.{ltb, leb}
 use borrow.Author.Tests.{lt-ltb, le-ltb, ltb-true, ltb-false, leb-true, leb-false}
-use Rattle.text.specs.Numerals.{digits, digitCountUpTo, digitCount, decimal, allDigits, value}
+use Rattle.text.specs.Numerals.{digitCountUpTo, digitCount, decimal, allDigits, value}
 use Rattle.text.proofs.DigitLaws.{length-digits, all-written, value-written}
 
 module _ (b : ℕ) (two : 1 < b) where

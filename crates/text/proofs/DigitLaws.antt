@@ -1,17 +1,16 @@
 -- Laws of numerals, over the base and the number of digits. Assumes nothing.
+use Prim.Native.Nat.{ℕ, zero, suc, _+_, _*_, _/_, _%_, _^_, _≤_, _<_, zero-le}
 use mathlib.Core.Path.{_≡_, refl, sym, _∙_, ap}
 use mathlib.Core.Bool.{Bool, true, false, cond, _&&_}
 use mathlib.Core.List.{List, [], _∷_, _++_, append-assoc, append-nil}
-use Prim.Native.Nat.{ℕ, zero, suc, _+_, _-_, _*_, _/_, _%_, _^_, _≤_, _<_, zero-le}
 use native.Mathlib.Nat.{add-zero, add-suc, zero-add, zero-mul, pow-zero, pow-suc, pow-succ', mod-lt, add-mul, mul-assoc, mul-comm, add-assoc, mul-one, mod-one, div-one, div-div-eq-div-mul, one-le-pow, pow-le-pow-right, lt-of-lt-of-le, lt-of-le-of-lt, le-trans, one-mul}
 use native.Mathlib.Omega.{arith}
 use native.Mathlib.Numerals.{add-one}
 use lib.Arith.{mod-mul, digits-lt, digits-div, digits-mod}
 use lib.ListN.{length, length-append, getD, drop, drop-of-length-le}
 use lib.Seq.{drop-cons}
-use lib.Dec.{ltb, leb}
+use lib.Dec.{ltb}
 use borrow.Author.Tests.{lt-ltb, le-ltb, le-leb, lt-leb, ltb-true, ltb-false}
-use Rattle.text.specs.declared.Numeral.{Numeral}
 use Rattle.text.specs.declared.Numeral.the-variants.{Value, NotDigits}
 use Rattle.text.specs.Numerals.{digit, digitValue, digits, allDigits, valueAfter, value}
 use Rattle.text.proofs.Truth.{and-left, and-right}

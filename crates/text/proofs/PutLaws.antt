@@ -1,12 +1,11 @@
 -- Laws of bytes laid at a place. Assumes nothing.
+use Prim.Native.Nat.{ℕ, suc, _+_, _≤_, _<_}
 use mathlib.Core.Path.{_≡_, refl, sym, _∙_, ap}
-use mathlib.Core.List.{List, [], _∷_, _++_, append-nil}
-use mathlib.Core.Logic.{_≢_}
-use Prim.Native.Nat.{ℕ, zero, suc, _+_, _≤_, _<_}
+use mathlib.Core.List.{List, [], _∷_, _++_}
 use native.Mathlib.Nat.{add-zero, add-suc, suc-add, zero-add}
 use native.Mathlib.Omega.{arith}
-use lib.ListN.{length, take, drop, set}
-use lib.Seq.{sets, sets-eq, length-sets, set-comm}
+use lib.ListN.{length, drop, set}
+use lib.Seq.{sets-eq, length-sets, set-comm}
 use Rattle.text.specs.Place.{put}
 
 pub put-nil : (d : List ℕ) (at : ℕ) → put d at [] ≡ d

@@ -3,3 +3,4 @@ pub mod Questions
 pub mod Numerals
 pub mod Lines
 pub mod Place
+pub mod Examples

@@ -1,3 +1,4 @@
+-- `files::check::check_words` meets its contract.
 use Prim.Native.Nat.{_+_, _-_, _≤_}
 use mathlib.Core.Path.{_≡_, refl, sym, _∙_}
 use mathlib.Core.Bool.{true}
@@ -10,9 +11,6 @@ use Rattle.files.specs.MemoryFile.{isWord, wordQuestions, linesTold}
 use Rattle.files.proofs.CheckLaws.{check-full, check-bad, check-good, check-end, word-inside}
 use Rattle.files.proofs.check.check_words.Statement.{statement}
 use Rattle.files.proofs.check.check_words.Tie as tie
-use Rattle.files.proofs.check.check_words.Reads as reads
-use Rattle.files.proofs.check.check_words.Lts as lts
-use Rattle.files.proofs.check.is_word.Reads as is-word-reads
 
 abbrev Inv-loop : tie.InvT-loop
 Inv-loop text k room values at₀ i₀ at i = (firstBad (wordQuestions k room) i (lines (drop at text)) (accepted 0) ≡ linesTold k room text) × (i ≤ at) × (at ≤ length text + 1)
@@ -27,54 +25,43 @@ good-line c = sym (c .before .is-word .ensures) ∙ not-false _ (c .if2 .left)
 within : (c : tie.Else2 Inv-loop μ-loop) → c .before .before .before .before .loop .at + c .before .before .before .before .before .before .args .k ≤ length (c .before .before .before .before .before .before .args .text .now)
 within c = word-inside (c .before .before .before .before .before .before .args .k) (c .before .before .before .before .before .before .args .text .now) (c .before .before .before .before .loop .at) (good-line c) (c .before .before .before .loop-test .taken)
 
--- src/check.rt:20:5
 loop-holds : tie.Need-loop-holds Inv-loop μ-loop
 unfolding linesTold
 loop-holds c = (refl, omega arith, omega arith)
 
--- src/check.rt:22:37
 add-t9 : tie.Need-add-t9 Inv-loop μ-loop
 add-t9 c = omega arith
 
--- src/check.rt:22:13
 returns : tie.Need-returns Inv-loop μ-loop
 returns c =
     let l = c .before .before .loop in
     let a = c .before .before .before .before .args in
     check-full (a .k) (a .room) (a .text .now) (l .at) (l .i) (omega arith) (omega arith) ∙ l .inv .0
 
--- src/check.rt:24:13
 is-word-requires : tie.Need-is-word-requires Inv-loop μ-loop
 is-word-requires c κs = (omega arith, c .before .before .before .before .pre)
 
--- src/check.rt:25:40
 add-t11 : tie.Need-add-t11 Inv-loop μ-loop
 add-t11 c = omega arith
 
--- src/check.rt:25:13
 returns-2 : tie.Need-returns-2 Inv-loop μ-loop
 returns-2 c =
     let l = c .before .before .before .before .loop in
     let a = c .before .before .before .before .before .before .args in
     check-bad (a .k) (a .room) (a .text .now) (l .at) (l .i) (omega arith) (omega arith) (sym (c .before .is-word .ensures) ∙ not-true _ (c .if2 .taken)) ∙ l .inv .0
 
--- src/check.rt:27:15
 add-at : tie.Need-add-at Inv-loop μ-loop
 add-at c = omega (arith, within c)
 
--- src/check.rt:27:9
 add-at-2 : tie.Need-add-at-2 Inv-loop μ-loop
 add-at-2 c = omega (arith, within c)
 
--- src/check.rt:28:9
 add-i : tie.Need-add-i Inv-loop μ-loop
 add-i c = omega arith
 
--- src/check.rt:20:5
 loop-less : tie.Need-loop-less Inv-loop μ-loop
 loop-less c = omega (arith, within c)
 
--- src/check.rt:20:5
 loop-again : tie.Need-loop-again Inv-loop μ-loop
 loop-again c =
     let l = c .before .before .before .before .loop in
@@ -84,7 +71,6 @@ loop-again c =
       omega (arith, within c),
     )
 
--- src/check.rt:14:1
 returns-3 : tie.Need-returns-3 Inv-loop μ-loop
 returns-3 c =
     let l = c .before .loop in

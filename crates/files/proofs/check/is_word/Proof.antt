@@ -1,61 +1,48 @@
-use mathlib.Core.Path.{_≡_, _∙_, sym, ap}
+-- `files::check::is_word` meets its contract.
 use Prim.Native.Nat.{ℕ, _+_, _-_}
+use mathlib.Core.Path.{_≡_, _∙_, sym, ap}
 use native.Mathlib.Omega.{arith}
 use lib.ListN.{take, drop, length-drop}
 use borrow.Author.Tests.{not-true, not-false}
+use borrow.Author.Needs.{needs}
 use Rattle.text.specs.Numerals.{allDigits}
 use Rattle.text.proofs.LineLaws.{ends-drop}
 use Rattle.files.proofs.CheckLaws.{word-short, word-long, word-front}
-use borrow.Author.Needs.{needs}
 use Rattle.files.proofs.check.is_word.Statement.{statement}
 use Rattle.files.proofs.check.is_word.Tie as tie
-use Rattle.files.proofs.check.is_word.Reads as reads
-use Rattle.files.proofs.check.is_word.Lts as lts
-use Rattle.text.proofs.digits.all_digits.Reads as all-digits-reads
-use Rattle.text.proofs.lines.ends_line.Reads as ends-line-reads
 
--- src/check.rt:38:8
 sub-if1 : tie.Need-sub-if1
 sub-if1 c = search needs
 
--- src/check.rt:39:9
 returns : tie.Need-returns
 returns c =
     let a = c .before .before .args in
     word-short (a .k) (drop (a .at) (a .text .now)) (rw length-drop (omega arith))
 
--- src/check.rt:41:15
 add-end : tie.Need-add-end
 add-end c = search needs
 
--- src/check.rt:42:9
 ends-line-requires : tie.Need-ends-line-requires
 ends-line-requires c κs = search needs
 
--- src/check.rt:43:9
 returns-2 : tie.Need-returns-2
 returns-2 c =
     let a = c .before .before .before .before .args in
     word-long (a .k) (drop (a .at) (a .text .now))
     (ends-drop (a .text .now) (a .at) (a .k) (omega arith) ∙ sym (c .before .ends-line .ensures) ∙ not-true _ (c .if2 .taken))
 
--- src/check.rt:45:16
 sub-all-digits : tie.Need-sub-all-digits
 sub-all-digits c = search needs
 
--- src/check.rt:45:16
 part-all-digits-start : tie.Need-part-all-digits-start
 part-all-digits-start c = search needs
 
--- src/check.rt:45:16
 part-all-digits-end : tie.Need-part-all-digits-end
 part-all-digits-end c = search needs
 
--- src/check.rt:45:5
 all-digits-requires : tie.Need-all-digits-requires
 all-digits-requires c κs = search needs
 
--- src/check.rt:34:1
 returns-3 : tie.Need-returns-3
 returns-3 c =
     let a = c .before .before .before .before .before .before .args in

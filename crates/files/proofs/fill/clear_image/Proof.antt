@@ -1,4 +1,5 @@
-use Prim.Native.Nat.{_-_, _≤_}
+-- `files::fill::clear_image` meets its contract.
+use Prim.Native.Nat.{_-_}
 use mathlib.Core.Path.{_≡_, refl, _∙_}
 use mathlib.Core.List.{_++_}
 use native.Mathlib.Omega.{arith}
@@ -6,8 +7,6 @@ use lib.ListN.{length, take, replicate, length-set}
 use Rattle.files.proofs.FillLaws.{clear-turn, clear-end}
 use Rattle.files.proofs.fill.clear_image.Statement.{statement}
 use Rattle.files.proofs.fill.clear_image.Tie as tie
-use Rattle.files.proofs.fill.clear_image.Reads as reads
-use Rattle.files.proofs.fill.clear_image.Lts as lts
 
 abbrev Inv-loop : tie.InvT-loop
 Inv-loop image₀ from i₀ image i = (take i image ++ replicate (length image - i) 0 ≡ take from image₀ ++ replicate (length image₀ - from) 0) × (length image ≡ length image₀)
@@ -15,37 +14,29 @@ Inv-loop image₀ from i₀ image i = (take i image ++ replicate (length image -
 abbrev μ-loop : tie.MeasureT-loop
 μ-loop image₀ from i₀ image i = length image - i
 
--- src/fill.rt:45:5
 loop-holds : tie.Need-loop-holds Inv-loop μ-loop
 loop-holds c = (refl, refl)
 
--- src/fill.rt:46:9
 mul-image : tie.Need-mul-image Inv-loop μ-loop
 mul-image c = omega arith
 
--- src/fill.rt:46:9
 slice-write-image : tie.Need-slice-write-image Inv-loop μ-loop
 slice-write-image c = omega arith
 
--- src/fill.rt:47:9
 add-i : tie.Need-add-i Inv-loop μ-loop
 add-i c = omega arith
 
--- src/fill.rt:45:5
 loop-less : tie.Need-loop-less Inv-loop μ-loop
 loop-less c = simp length-set (omega arith)
 
--- src/fill.rt:45:5
 loop-again : tie.Need-loop-again Inv-loop μ-loop
 loop-again c =
     let l = c .before .loop in
     (rw length-set (clear-turn (l .image) (l .i) (c .loop-test .taken)) ∙ l .inv .0, simp length-set (l .inv .1))
 
--- src/fill.rt:40:1
 same-length : tie.Need-same-length Inv-loop μ-loop
 same-length c = c .before .loop .inv .1
 
--- src/fill.rt:40:1
 returns : tie.Need-returns Inv-loop μ-loop
 returns c = clear-end (c .before .loop .image) (c .before .loop .i) (c .loop-test .left) ∙ c .before .loop .inv .0
 

@@ -1,4 +1,5 @@
-use Prim.Native.Nat.{_-_, _≤_}
+-- `files::fill::clear_words` meets its contract.
+use Prim.Native.Nat.{_-_}
 use mathlib.Core.Path.{_≡_, refl, _∙_}
 use mathlib.Core.List.{_++_}
 use native.Mathlib.Omega.{arith}
@@ -6,8 +7,6 @@ use lib.ListN.{length, take, replicate, length-set}
 use Rattle.files.proofs.FillLaws.{clear-turn, clear-end}
 use Rattle.files.proofs.fill.clear_words.Statement.{statement}
 use Rattle.files.proofs.fill.clear_words.Tie as tie
-use Rattle.files.proofs.fill.clear_words.Reads as reads
-use Rattle.files.proofs.fill.clear_words.Lts as lts
 
 abbrev Inv-loop : tie.InvT-loop
 Inv-loop memory₀ from i₀ memory i = (take i memory ++ replicate (length memory - i) 0 ≡ take from memory₀ ++ replicate (length memory₀ - from) 0) × (length memory ≡ length memory₀)
@@ -15,37 +14,29 @@ Inv-loop memory₀ from i₀ memory i = (take i memory ++ replicate (length memo
 abbrev μ-loop : tie.MeasureT-loop
 μ-loop memory₀ from i₀ memory i = length memory - i
 
--- src/fill.rt:70:5
 loop-holds : tie.Need-loop-holds Inv-loop μ-loop
 loop-holds c = (refl, refl)
 
--- src/fill.rt:71:9
 mul-memory : tie.Need-mul-memory Inv-loop μ-loop
 mul-memory c = omega arith
 
--- src/fill.rt:71:9
 slice-write-memory : tie.Need-slice-write-memory Inv-loop μ-loop
 slice-write-memory c = omega arith
 
--- src/fill.rt:72:9
 add-i : tie.Need-add-i Inv-loop μ-loop
 add-i c = omega arith
 
--- src/fill.rt:70:5
 loop-less : tie.Need-loop-less Inv-loop μ-loop
 loop-less c = simp length-set (omega arith)
 
--- src/fill.rt:70:5
 loop-again : tie.Need-loop-again Inv-loop μ-loop
 loop-again c =
     let l = c .before .loop in
     (rw length-set (clear-turn (l .memory) (l .i) (c .loop-test .taken)) ∙ l .inv .0, simp length-set (l .inv .1))
 
--- src/fill.rt:65:1
 same-length : tie.Need-same-length Inv-loop μ-loop
 same-length c = c .before .loop .inv .1
 
--- src/fill.rt:65:1
 returns : tie.Need-returns Inv-loop μ-loop
 returns c = clear-end (c .before .loop .memory) (c .before .loop .i) (c .loop-test .left) ∙ c .before .loop .inv .0
 

@@ -1,10 +1,10 @@
+-- `files::fill::fill_frame` meets its contract.
 use Prim.Native.Nat.{_+_, _-_, _≤_, _<_}
-use mathlib.Core.Path.{_≡_, refl, sym, _∙_, ap}
-use mathlib.Core.List.{List, _++_}
-use Prim.Native.Nat.{ℕ}
+use mathlib.Core.Path.{_≡_, refl, _∙_}
+use mathlib.Core.List.{_++_}
 use native.Mathlib.Nat.{sub-zero}
 use native.Mathlib.Omega.{arith}
-use lib.ListN.{length, take, drop, replicate, length-set}
+use lib.ListN.{length, take, drop, length-set}
 use Rattle.text.specs.Questions.{accepted, firstBad}
 use Rattle.text.specs.Lines.{lines, firstLine}
 use Rattle.files.specs.MemoryFile.{wordQuestions, linesTold, fileWords}
@@ -12,10 +12,6 @@ use Rattle.files.proofs.CheckLaws.{good-room, good-word, good-fits, goo
 use Rattle.files.proofs.FillLaws.{fill-turn, fill-end, word-lt}
 use Rattle.files.proofs.fill.fill_frame.Statement.{statement}
 use Rattle.files.proofs.fill.fill_frame.Tie as tie
-use Rattle.files.proofs.fill.fill_frame.Reads as reads
-use Rattle.files.proofs.fill.fill_frame.Lts as lts
-use Rattle.files.proofs.fill.clear_frame.Reads as clear-frame-reads
-use Rattle.files.proofs.fill.word.Reads as word-reads
 
 abbrev Inv-loop : tie.InvT-loop
 Inv-loop text frame₀ values at₀ i₀ frame at i =
@@ -41,42 +37,34 @@ fill-fits c =
     let a = c .before .before .before .before .before .args in
     good-fits 2 (length (a .frame .now)) (a .text .now) (l .at) (l .i) (c .before .loop-test .taken) (l .inv .1)
 
--- src/fill.rt:82:5
 loop-holds : tie.Need-loop-holds Inv-loop μ-loop
 unfolding linesTold
 loop-holds c = (rw sub-zero, c .before .before .pre .0, refl, omega arith, omega arith)
 
--- src/fill.rt:83:20
 word-requires : tie.Need-word-requires Inv-loop μ-loop
 word-requires c κs =
     let l = c .before .loop in
     let a = c .before .before .before .before .args in
     (good-word 2 (length (a .frame .now)) (a .text .now) (l .at) (l .i) (c .loop-test .taken) (l .inv .1), (c .loop-test .taken, (omega arith, c .before .before .before .before .pre .1)))
 
--- src/fill.rt:83:20
 cast-frame : tie.Need-cast-frame Inv-loop μ-loop
 cast-frame c =
     let l = c .before .before .loop in
     let a = c .before .before .before .before .before .args in
     record { fits = rw (c .word .ensures) (word-lt 2 (firstLine (drop (l .at) (a .text .now))) (good-word 2 (length (a .frame .now)) (a .text .now) (l .at) (l .i) (c .before .loop-test .taken) (l .inv .1))) }
 
--- src/fill.rt:83:9
 slice-write-frame : tie.Need-slice-write-frame Inv-loop μ-loop
 slice-write-frame c = let room = fill-room c in omega arith
 
--- src/fill.rt:84:9
 add-at : tie.Need-add-at Inv-loop μ-loop
 add-at c = let fits = fill-fits c in omega arith
 
--- src/fill.rt:85:9
 add-i : tie.Need-add-i Inv-loop μ-loop
 add-i c = let room = fill-room c in omega arith
 
--- src/fill.rt:82:5
 loop-less : tie.Need-loop-less Inv-loop μ-loop
 loop-less c = let fits = fill-fits c in omega arith
 
--- src/fill.rt:82:5
 loop-again : tie.Need-loop-again Inv-loop μ-loop
 loop-again c =
     let l = c .before .before .loop in
@@ -92,15 +80,12 @@ loop-again c =
       omega arith,
     )
 
--- src/fill.rt:87:5
 clear-frame-requires : tie.Need-clear-frame-requires Inv-loop μ-loop
 clear-frame-requires c κs = omega arith
 
--- src/fill.rt:76:1
 same-length : tie.Need-same-length Inv-loop μ-loop
 same-length c = let k = c .before .before .clear-frame .kept in omega arith
 
--- src/fill.rt:76:1
 returns : tie.Need-returns Inv-loop μ-loop
 returns c =
     let l = c .before .before .before .before .before .loop in

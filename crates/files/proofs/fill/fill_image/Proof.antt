@@ -1,21 +1,17 @@
+-- `files::fill::fill_image` meets its contract.
 use Prim.Native.Nat.{_+_, _-_, _≤_, _<_}
-use mathlib.Core.Path.{_≡_, refl, sym, _∙_, ap}
-use mathlib.Core.List.{List, _++_}
-use Prim.Native.Nat.{ℕ}
+use mathlib.Core.Path.{_≡_, refl, _∙_}
+use mathlib.Core.List.{_++_}
 use native.Mathlib.Nat.{sub-zero}
 use native.Mathlib.Omega.{arith}
-use lib.ListN.{length, take, drop, replicate, length-set}
+use lib.ListN.{length, take, drop, length-set}
 use Rattle.text.specs.Questions.{accepted, firstBad}
-use Rattle.text.specs.Lines.{lines, firstLine}
+use Rattle.text.specs.Lines.{lines}
 use Rattle.files.specs.MemoryFile.{wordQuestions, linesTold, fileWords}
 use Rattle.files.proofs.CheckLaws.{good-room, good-word, good-fits, good-next}
-use Rattle.files.proofs.FillLaws.{fill-turn, fill-end, word-lt}
+use Rattle.files.proofs.FillLaws.{fill-turn, fill-end}
 use Rattle.files.proofs.fill.fill_image.Statement.{statement}
 use Rattle.files.proofs.fill.fill_image.Tie as tie
-use Rattle.files.proofs.fill.fill_image.Reads as reads
-use Rattle.files.proofs.fill.fill_image.Lts as lts
-use Rattle.files.proofs.fill.clear_image.Reads as clear-image-reads
-use Rattle.files.proofs.fill.word.Reads as word-reads
 
 abbrev Inv-loop : tie.InvT-loop
 Inv-loop text image₀ values at₀ i₀ image at i =
@@ -41,39 +37,31 @@ fill-fits c =
     let a = c .before .before .before .before .before .args in
     good-fits 12 (length (a .image .now)) (a .text .now) (l .at) (l .i) (c .before .loop-test .taken) (l .inv .1)
 
--- src/fill.rt:32:5
 loop-holds : tie.Need-loop-holds Inv-loop μ-loop
 unfolding linesTold
 loop-holds c = (rw sub-zero, c .before .before .pre .0, refl, omega arith, omega arith)
 
--- src/fill.rt:33:20
 word-requires : tie.Need-word-requires Inv-loop μ-loop
 word-requires c κs =
     let l = c .before .loop in
     let a = c .before .before .before .before .args in
     (good-word 12 (length (a .image .now)) (a .text .now) (l .at) (l .i) (c .loop-test .taken) (l .inv .1), (c .loop-test .taken, (omega arith, c .before .before .before .before .pre .1)))
 
--- src/fill.rt:33:9
 mul-image : tie.Need-mul-image Inv-loop μ-loop
 mul-image c = let room = fill-room c in omega arith
 
--- src/fill.rt:33:9
 slice-write-image : tie.Need-slice-write-image Inv-loop μ-loop
 slice-write-image c = let room = fill-room c in omega arith
 
--- src/fill.rt:34:9
 add-at : tie.Need-add-at Inv-loop μ-loop
 add-at c = let fits = fill-fits c in omega arith
 
--- src/fill.rt:35:9
 add-i : tie.Need-add-i Inv-loop μ-loop
 add-i c = let room = fill-room c in omega arith
 
--- src/fill.rt:32:5
 loop-less : tie.Need-loop-less Inv-loop μ-loop
 loop-less c = let fits = fill-fits c in omega arith
 
--- src/fill.rt:32:5
 loop-again : tie.Need-loop-again Inv-loop μ-loop
 loop-again c =
     let l = c .before .before .loop in
@@ -89,15 +77,12 @@ loop-again c =
       omega arith,
     )
 
--- src/fill.rt:37:5
 clear-image-requires : tie.Need-clear-image-requires Inv-loop μ-loop
 clear-image-requires c κs = omega arith
 
--- src/fill.rt:26:1
 same-length : tie.Need-same-length Inv-loop μ-loop
 same-length c = let k = c .before .before .clear-image .kept in omega arith
 
--- src/fill.rt:26:1
 returns : tie.Need-returns Inv-loop μ-loop
 returns c =
     let l = c .before .before .before .before .before .loop in

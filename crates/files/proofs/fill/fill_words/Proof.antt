@@ -1,10 +1,10 @@
+-- `files::fill::fill_words` meets its contract.
 use Prim.Native.Nat.{_+_, _-_, _≤_, _<_}
-use mathlib.Core.Path.{_≡_, refl, sym, _∙_, ap}
-use mathlib.Core.List.{List, _++_}
-use Prim.Native.Nat.{ℕ}
+use mathlib.Core.Path.{_≡_, refl, _∙_}
+use mathlib.Core.List.{_++_}
 use native.Mathlib.Nat.{sub-zero}
 use native.Mathlib.Omega.{arith}
-use lib.ListN.{length, take, drop, replicate, length-set}
+use lib.ListN.{length, take, drop, length-set}
 use Rattle.text.specs.Questions.{accepted, firstBad}
 use Rattle.text.specs.Lines.{lines, firstLine}
 use Rattle.files.specs.MemoryFile.{wordQuestions, linesTold, fileWords}
@@ -12,10 +12,6 @@ use Rattle.files.proofs.CheckLaws.{good-room, good-word, good-fits, goo
 use Rattle.files.proofs.FillLaws.{fill-turn, fill-end, word-lt}
 use Rattle.files.proofs.fill.fill_words.Statement.{statement}
 use Rattle.files.proofs.fill.fill_words.Tie as tie
-use Rattle.files.proofs.fill.fill_words.Reads as reads
-use Rattle.files.proofs.fill.fill_words.Lts as lts
-use Rattle.files.proofs.fill.clear_words.Reads as clear-words-reads
-use Rattle.files.proofs.fill.word.Reads as word-reads
 
 abbrev Inv-loop : tie.InvT-loop
 Inv-loop text memory₀ values at₀ i₀ memory at i =
@@ -41,46 +37,37 @@ fill-fits c =
     let a = c .before .before .before .before .before .args in
     good-fits 8 (length (a .memory .now)) (a .text .now) (l .at) (l .i) (c .before .loop-test .taken) (l .inv .1)
 
--- src/fill.rt:57:5
 loop-holds : tie.Need-loop-holds Inv-loop μ-loop
 unfolding linesTold
 loop-holds c = (rw sub-zero, c .before .before .pre .0, refl, omega arith, omega arith)
 
--- src/fill.rt:58:21
 word-requires : tie.Need-word-requires Inv-loop μ-loop
 word-requires c κs =
     let l = c .before .loop in
     let a = c .before .before .before .before .args in
     (good-word 8 (length (a .memory .now)) (a .text .now) (l .at) (l .i) (c .loop-test .taken) (l .inv .1), (c .loop-test .taken, (omega arith, c .before .before .before .before .pre .1)))
 
--- src/fill.rt:58:21
 cast-memory : tie.Need-cast-memory Inv-loop μ-loop
 cast-memory c =
     let l = c .before .before .loop in
     let a = c .before .before .before .before .before .args in
     record { fits = rw (c .word .ensures) (word-lt 8 (firstLine (drop (l .at) (a .text .now))) (good-word 8 (length (a .memory .now)) (a .text .now) (l .at) (l .i) (c .before .loop-test .taken) (l .inv .1))) }
 
--- src/fill.rt:58:9
 mul-memory : tie.Need-mul-memory Inv-loop μ-loop
 mul-memory c = let room = fill-room c in omega arith
 
--- src/fill.rt:58:9
 slice-write-memory : tie.Need-slice-write-memory Inv-loop μ-loop
 slice-write-memory c = let room = fill-room c in omega arith
 
--- src/fill.rt:59:9
 add-at : tie.Need-add-at Inv-loop μ-loop
 add-at c = let fits = fill-fits c in omega arith
 
--- src/fill.rt:60:9
 add-i : tie.Need-add-i Inv-loop μ-loop
 add-i c = let room = fill-room c in omega arith
 
--- src/fill.rt:57:5
 loop-less : tie.Need-loop-less Inv-loop μ-loop
 loop-less c = let fits = fill-fits c in omega arith
 
--- src/fill.rt:57:5
 loop-again : tie.Need-loop-again Inv-loop μ-loop
 loop-again c =
     let l = c .before .before .loop in
@@ -96,15 +83,12 @@ loop-again c =
       omega arith,
     )
 
--- src/fill.rt:62:5
 clear-words-requires : tie.Need-clear-words-requires Inv-loop μ-loop
 clear-words-requires c κs = omega arith
 
--- src/fill.rt:51:1
 same-length : tie.Need-same-length Inv-loop μ-loop
 same-length c = let k = c .before .before .clear-words .kept in omega arith
 
--- src/fill.rt:51:1
 returns : tie.Need-returns Inv-loop μ-loop
 returns c =
     let l = c .before .before .before .before .before .loop in

@@ -1,34 +1,27 @@
+-- `files::fill::word` meets its contract.
 use mathlib.Core.Path.{_∙_, ap}
 use native.Mathlib.Omega.{arith}
+use borrow.Author.Needs.{needs}
 use Rattle.text.specs.Numerals.{value}
 use Rattle.files.proofs.CheckLaws.{word-part, word-all, word-fits, word-inside}
-use borrow.Author.Needs.{needs}
 use Rattle.files.proofs.fill.word.Statement.{statement}
 use Rattle.files.proofs.fill.word.Tie as tie
-use Rattle.files.proofs.fill.word.Reads as reads
-use Rattle.files.proofs.fill.word.Lts as lts
-use Rattle.text.proofs.digits.value_of.Reads as value-of-reads
 
--- src/fill.rt:18:24
 add-value-of : tie.Need-add-value-of
 add-value-of c = search needs
 
--- src/fill.rt:18:14
 sub-value-of : tie.Need-sub-value-of
 sub-value-of c = search needs
 
--- src/fill.rt:18:14
 part-value-of-start : tie.Need-part-value-of-start
 part-value-of-start c = search needs
 
--- src/fill.rt:18:14
 part-value-of-end : tie.Need-part-value-of-end
 part-value-of-end c =
     let a = c .before .args in
     let p = c .before .pre in
     omega (arith, word-inside (a .k) (a .text .now) (a .at) (p .0) (p .1 .0))
 
--- src/fill.rt:18:5
 value-of-requires : tie.Need-value-of-requires
 value-of-requires c κs =
     let a = c .before .before .args in
@@ -36,7 +29,6 @@ value-of-requires c κs =
     rw (word-part (a .k) (a .text .now) (a .at) (p .0))
     (word-all (a .k) (a .text .now) (a .at) (p .0), (word-fits (a .k) (a .text .now) (a .at) (p .0) (p .1 .1 .0), p .1 .1 .1))
 
--- src/fill.rt:14:1
 returns : tie.Need-returns
 returns c =
     let a = c .before .before .before .args in

@@ -1,22 +1,18 @@
-use borrow.Author.Needs.{needs}
-use Prim.Native.Nat.{ℕ, _+_, _-_, _^_, _≤_, _<_}
+-- `files::irq2::check_cycles` meets its contract.
+use Prim.Native.Nat.{_+_, _-_, _^_, _≤_, _<_}
 use mathlib.Core.Path.{_≡_, refl, sym, _∙_, ap}
-use mathlib.Core.Bool.{true}
 use native.Mathlib.Omega.{arith}
 use lib.ListN.{length, take, drop}
+use borrow.Author.Needs.{needs}
 use Rattle.text.specs.Questions.{accepted, firstBad}
 use Rattle.text.specs.Numerals.{value}
-use Rattle.text.specs.Lines.{lines, firstLine}
+use Rattle.text.specs.Lines.{lines}
 use Rattle.text.proofs.DigitLaws.{number-yes, number-no, number-value}
 use Rattle.text.proofs.LineLaws.{lines-at}
 use Rattle.files.specs.Irq2File.{isCycle, cycleQuestions, irq2Told}
 use Rattle.files.proofs.Irq2Laws.{leastAfter, next-is, least-next, cycle-full, cycle-bad, cycle-low, cycle-good, cycle-end, count-end, cycle-below}
 use Rattle.files.proofs.irq2.check_cycles.Statement.{statement}
 use Rattle.files.proofs.irq2.check_cycles.Tie as tie
-use Rattle.files.proofs.irq2.check_cycles.Reads as reads
-use Rattle.files.proofs.irq2.check_cycles.Lts as lts
-use Rattle.files.proofs.irq2.line_cycle.Reads as line-cycle-reads
-use Rattle.text.proofs.lines.line_end.Reads as line-end-reads
 
 abbrev Inv-loop : tie.InvT-loop
 Inv-loop text room values at₀ i₀ least₀ at i least =
@@ -37,55 +33,43 @@ below c =
     let line = take (c .before .before .before .before .before .before .line-end .result - l .at) (drop (l .at) (c .before .before .before .before .before .before .before .before .before .before .before .args .text .now)) in
     cycle-below line _ (sym (c .before .before .before .before .line-cycle .ensures) ∙ c .before .before .cycle .given .1)
 
--- src/irq2.rt:43:5
 loop-holds : tie.Need-loop-holds Inv-loop μ-loop
 unfolding irq2Told leastAfter
 loop-holds c = (refl, refl, refl, omega arith, omega arith, omega arith)
 
--- src/irq2.rt:45:39
 add-t11 : tie.Need-add-t11 Inv-loop μ-loop
 add-t11 c = omega arith
 
--- src/irq2.rt:45:13
 returns : tie.Need-returns Inv-loop μ-loop
 returns c =
     let l = c .before .before .loop in
     let a = c .before .before .before .before .args in
     cycle-full (a .room) (a .text .now) (l .at) (l .i) _ (c .before .loop-test .taken) refl _ (c .if1 .taken) ∙ l .inv .0
 
--- src/irq2.rt:47:13
 line-end-requires : tie.Need-line-end-requires Inv-loop μ-loop
 line-end-requires c κs = omega arith
 
--- src/irq2.rt:48:48
 sub-line-cycle : tie.Need-sub-line-cycle Inv-loop μ-loop
 sub-line-cycle c = omega arith
 
--- src/irq2.rt:48:48
 part-line-cycle-start : tie.Need-part-line-cycle-start Inv-loop μ-loop
 part-line-cycle-start c = omega arith
 
--- src/irq2.rt:48:48
 part-line-cycle-end : tie.Need-part-line-cycle-end Inv-loop μ-loop
 part-line-cycle-end c = omega arith
 
--- src/irq2.rt:48:37
 line-cycle-requires : tie.Need-line-cycle-requires Inv-loop μ-loop
 line-cycle-requires c κs = c .before .before .before .before .before .before .pre
 
--- src/irq2.rt:48:28
 enum-known-cycle : tie.Need-enum-known-cycle Inv-loop μ-loop
 enum-known-cycle c = search needs
 
--- src/irq2.rt:49:41
 enum-told : tie.Need-enum-told Inv-loop μ-loop
 enum-told c = search needs
 
--- src/irq2.rt:49:41
 add-t16 : tie.Need-add-t16 Inv-loop μ-loop
 add-t16 c = omega arith
 
--- src/irq2.rt:49:13
 returns-2 : tie.Need-returns-2 Inv-loop μ-loop
 returns-2 c =
     let l = c .before .before .before .before .before .before .before .loop in
@@ -95,11 +79,9 @@ returns-2 c =
     cycle-bad (a .room) (a .text .now) (l .at) (l .i) (e .result) (c .before .before .before .before .before .before .loop-test .taken) (e .ensures .0) _ (c .before .before .before .before .before .if1 .left)
     (number-no (isCycle line) (value 10 line) (sym (c .before .before .line-cycle .ensures) ∙ c .enum-told .given .1)) ∙ l .inv .0
 
--- src/irq2.rt:52:42
 add-t17 : tie.Need-add-t17 Inv-loop μ-loop
 add-t17 c = omega arith
 
--- src/irq2.rt:52:13
 returns-3 : tie.Need-returns-3 Inv-loop μ-loop
 returns-3 c =
     let l = c .before .before .before .before .before .before .before .before .before .loop in
@@ -111,23 +93,18 @@ returns-3 c =
     cycle-low (a .room) (a .text .now) (l .at) (l .i) (e .result) (c .before .before .before .before .before .before .before .before .loop-test .taken) (e .ensures .0) _ (c .before .before .before .before .before .before .before .if1 .left)
     (number-yes (isCycle line) (value 10 line) _ told) (rw (← is, ← (l .inv .2)) (c .if2 .taken)) ∙ l .inv .0
 
--- src/irq2.rt:54:17
 add-least : tie.Need-add-least Inv-loop μ-loop
 add-least c = omega (arith, below c)
 
--- src/irq2.rt:55:14
 add-at : tie.Need-add-at Inv-loop μ-loop
 add-at c = omega arith
 
--- src/irq2.rt:56:9
 add-i : tie.Need-add-i Inv-loop μ-loop
 add-i c = omega arith
 
--- src/irq2.rt:43:5
 loop-less : tie.Need-loop-less Inv-loop μ-loop
 loop-less c = omega arith
 
--- src/irq2.rt:43:5
 loop-again : tie.Need-loop-again Inv-loop μ-loop
 loop-again c =
     let l = c .before .before .before .before .before .before .before .before .before .loop in
@@ -149,7 +126,6 @@ loop-again c =
       omega arith,
     )
 
--- src/irq2.rt:36:1
 returns-4 : tie.Need-returns-4 Inv-loop μ-loop
 returns-4 c =
     let l = c .before .loop in

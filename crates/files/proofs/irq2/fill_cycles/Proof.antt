@@ -1,5 +1,6 @@
-use Prim.Native.Nat.{ℕ, _+_, _-_, _≤_, _<_}
-use mathlib.Core.Path.{_≡_, refl, sym, _∙_, ap}
+-- `files::irq2::fill_cycles` meets its contract.
+use Prim.Native.Nat.{_+_, _-_, _≤_, _<_}
+use mathlib.Core.Path.{_≡_, refl, _∙_}
 use mathlib.Core.List.{map}
 use native.Mathlib.Omega.{arith}
 use lib.ListN.{length, drop, length-set}
@@ -11,10 +12,6 @@ use Rattle.files.specs.Irq2File.{cycleQuestions, irq2Told, fileCycles}
 use Rattle.files.proofs.Irq2Laws.{cycle-room, cycle-form, cycle-next, cycle-turn, cycles-end}
 use Rattle.files.proofs.irq2.fill_cycles.Statement.{statement}
 use Rattle.files.proofs.irq2.fill_cycles.Tie as tie
-use Rattle.files.proofs.irq2.fill_cycles.Reads as reads
-use Rattle.files.proofs.irq2.fill_cycles.Lts as lts
-use Rattle.text.proofs.digits.value_of.Reads as value-of-reads
-use Rattle.text.proofs.lines.line_end.Reads as line-end-reads
 
 abbrev Inv-loop : tie.InvT-loop
 Inv-loop text cycles₀ values at₀ i₀ cycles at i =
@@ -34,28 +31,22 @@ fill-room c =
     let e = c .before .before .line-end in
     cycle-room (length (a .cycles .now)) (a .text .now) (l .at) (l .i) (e .result) (length (lines (a .text .now))) (c .before .before .before .loop-test .taken) (e .ensures .0) (l .inv .1)
 
--- src/irq2.rt:86:5
 loop-holds : tie.Need-loop-holds Inv-loop μ-loop
 unfolding irq2Told
 loop-holds c = (refl, c .before .before .pre .0, refl, omega arith)
 
--- src/irq2.rt:87:13
 line-end-requires : tie.Need-line-end-requires Inv-loop μ-loop
 line-end-requires c κs = omega arith
 
--- src/irq2.rt:88:30
 sub-value-of : tie.Need-sub-value-of Inv-loop μ-loop
 sub-value-of c = omega arith
 
--- src/irq2.rt:88:30
 part-value-of-start : tie.Need-part-value-of-start Inv-loop μ-loop
 part-value-of-start c = omega arith
 
--- src/irq2.rt:88:30
 part-value-of-end : tie.Need-part-value-of-end Inv-loop μ-loop
 part-value-of-end c = omega arith
 
--- src/irq2.rt:88:21
 value-of-requires : tie.Need-value-of-requires Inv-loop μ-loop
 value-of-requires c κs =
     let l = c .before .before .before .loop in
@@ -64,27 +55,21 @@ value-of-requires c κs =
     let form = cycle-form (length (a .cycles .now)) (a .text .now) (l .at) (l .i) (e .result) (length (lines (a .text .now))) (c .before .before .loop-test .taken) (e .ensures .0) (l .inv .1) in
     (form .0, (form .1, c .before .before .before .before .before .before .pre .1))
 
--- src/irq2.rt:88:9
 mul-cycles : tie.Need-mul-cycles Inv-loop μ-loop
 mul-cycles c = let room = fill-room c in omega arith
 
--- src/irq2.rt:88:9
 slice-write-cycles : tie.Need-slice-write-cycles Inv-loop μ-loop
 slice-write-cycles c = let room = fill-room c in omega arith
 
--- src/irq2.rt:89:14
 add-at : tie.Need-add-at Inv-loop μ-loop
 add-at c = omega arith
 
--- src/irq2.rt:90:9
 add-i : tie.Need-add-i Inv-loop μ-loop
 add-i c = let room = fill-room c in omega arith
 
--- src/irq2.rt:86:5
 loop-less : tie.Need-loop-less Inv-loop μ-loop
 loop-less c = omega arith
 
--- src/irq2.rt:86:5
 loop-again : tie.Need-loop-again Inv-loop μ-loop
 loop-again c =
     let l = c .before .before .before .before .loop in
@@ -98,11 +83,9 @@ loop-again c =
       omega arith,
     )
 
--- src/irq2.rt:80:1
 same-length : tie.Need-same-length Inv-loop μ-loop
 same-length c = c .before .loop .inv .2
 
--- src/irq2.rt:80:1
 returns : tie.Need-returns Inv-loop μ-loop
 returns c =
     let l = c .before .loop in

@@ -1,63 +1,47 @@
-use mathlib.Core.Path.{_≡_, refl, sym, _∙_, ap}
+-- `files::irq2::read_irq2` meets its contract.
+use mathlib.Core.Path.{refl, sym, _∙_, ap}
+use borrow.Author.Needs.{needs}
 use Rattle.text.specs.Questions.{Told}
 use Rattle.files.specs.Answers.{cyclesReadTold}
 use Rattle.files.proofs.AnswerLaws.{irq2-refused, irq2-read}
-use borrow.Author.Needs.{needs}
 use Rattle.files.proofs.irq2.read_irq2.Statement.{statement}
 use Rattle.files.proofs.irq2.read_irq2.Tie as tie
-use Rattle.files.proofs.irq2.read_irq2.Reads as reads
-use Rattle.files.proofs.irq2.read_irq2.Lts as lts
-use Rattle.files.proofs.irq2.check_cycles.Reads as check-cycles-reads
-use Rattle.files.proofs.irq2.fill_cycles.Reads as fill-cycles-reads
-use Rattle.text.proofs.digits.digit_values.Reads as digit-values-reads
 
--- src/irq2.rt:23:18
 digit-values-requires : tie.Need-digit-values-requires
 digit-values-requires c κs = search needs
 
--- src/irq2.rt:24:11
 check-cycles-requires : tie.Need-check-cycles-requires
 check-cycles-requires c κs = search needs
 
--- src/irq2.rt:25:28
 enum-known-count : tie.Need-enum-known-count
 enum-known-count c = search needs
 
--- src/irq2.rt:26:13
 fill-cycles-requires : tie.Need-fill-cycles-requires
 fill-cycles-requires c κs = (ap (λ (t : Told). t .number) (sym (c .before .before .before .before .before .check-cycles .ensures) ∙ ap cyclesReadTold (c .before .before .before .count .given .1)), c .before .before .before .before .before .before .before .digit-values .ensures)
 
--- src/irq2.rt:29:28
 enum-known-line : tie.Need-enum-known-line
 enum-known-line c = search needs
 
--- src/irq2.rt:30:30
 enum-known-line-2 : tie.Need-enum-known-line-2
 enum-known-line-2 c = search needs
 
--- src/irq2.rt:31:31
 enum-known-line-3 : tie.Need-enum-known-line-3
 enum-known-line-3 c = search needs
 
--- src/irq2.rt:20:1
 same-length : tie.Need-same-length
 same-length c = search needs
 
--- src/irq2.rt:20:1
 returns : tie.Need-returns
 returns c =
     let a = c .before .before .before .before .before .before .before .before .before .before .before .before .before .args in
     irq2-read (a .text .now) (a .cycles .now) _ (sym (ap cyclesReadTold (c .before .before .before .before .before .before .count .given .1)) ∙ c .before .before .before .before .before .before .before .before .check-cycles .ensures) _ refl (c .before .before .fill-cycles .ensures)
 
--- src/irq2.rt:20:1
 returns-2 : tie.Need-returns-2
 returns-2 c = let a = c .before .before .before .before .before .before .before .before .args in irq2-refused (a .text .now) (a .cycles .now) _ (sym (ap cyclesReadTold (c .before .line .given .1)) ∙ c .before .before .before .check-cycles .ensures) refl
 
--- src/irq2.rt:20:1
 returns-3 : tie.Need-returns-3
 returns-3 c = let a = c .before .before .before .before .before .before .before .before .args in irq2-refused (a .text .now) (a .cycles .now) _ (sym (ap cyclesReadTold (c .before .line2 .given .1)) ∙ c .before .before .before .check-cycles .ensures) refl
 
--- src/irq2.rt:20:1
 returns-4 : tie.Need-returns-4
 returns-4 c = let a = c .before .before .before .before .before .before .before .before .args in irq2-refused (a .text .now) (a .cycles .now) _ (sym (ap cyclesReadTold (c .before .line3 .given .1)) ∙ c .before .before .before .check-cycles .ensures) refl
 

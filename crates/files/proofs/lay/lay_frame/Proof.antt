@@ -1,3 +1,4 @@
+-- `files::lay::lay_frame` meets its contract.
 use Prim.Native.Nat.{_+_, _-_, _*_, _≤_}
 use mathlib.Core.Path.{_≡_, refl, _∙_}
 use native.Mathlib.Omega.{arith}
@@ -7,9 +8,6 @@ use Rattle.files.specs.MemoryFile.{fileText}
 use Rattle.files.proofs.LayLaws.{lay-turn, lay-end}
 use Rattle.files.proofs.lay.lay_frame.Statement.{statement}
 use Rattle.files.proofs.lay.lay_frame.Tie as tie
-use Rattle.files.proofs.lay.lay_frame.Reads as reads
-use Rattle.files.proofs.lay.lay_frame.Lts as lts
-use Rattle.files.proofs.lay.lay_line.Reads as lay-line-reads
 
 abbrev Inv-loop : tie.InvT-loop
 Inv-loop frame out₀ at pairs p₀ i₀ out p i = (put out p (fileText 2 (drop i frame)) ≡ put out₀ at (fileText 2 frame)) × ((length out ≡ length out₀) × ((p ≡ at + i * 3) × (i ≤ length frame)))
@@ -17,35 +15,27 @@ Inv-loop frame out₀ at pairs p₀ i₀ out p i = (put out p (fileText 2 (drop 
 abbrev μ-loop : tie.MeasureT-loop
 μ-loop frame out₀ at pairs p₀ i₀ out p i = length frame - i
 
--- src/lay.rt:60:5
 loop-holds : tie.Need-loop-holds Inv-loop μ-loop
 loop-holds c = (refl, (refl, (omega arith, omega arith)))
 
--- src/lay.rt:61:29
 shared-slice-read-lay-line : tie.Need-shared-slice-read-lay-line Inv-loop μ-loop
 shared-slice-read-lay-line c = omega arith
 
--- src/lay.rt:61:29
 cast-lay-line : tie.Need-cast-lay-line Inv-loop μ-loop
 cast-lay-line c = omega (arith, c .shared-slice-known2 .given (c .before .before .before .loop .i))
 
--- src/lay.rt:61:9
 lay-line-requires : tie.Need-lay-line-requires Inv-loop μ-loop
 lay-line-requires c κs = (omega arith, c .before .before .before .before .before .before .pre .1)
 
--- src/lay.rt:62:9
 add-p : tie.Need-add-p Inv-loop μ-loop
 add-p c = omega arith
 
--- src/lay.rt:63:9
 add-i : tie.Need-add-i Inv-loop μ-loop
 add-i c = omega arith
 
--- src/lay.rt:60:5
 loop-less : tie.Need-loop-less Inv-loop μ-loop
 loop-less c = omega arith
 
--- src/lay.rt:60:5
 loop-again : tie.Need-loop-again Inv-loop μ-loop
 loop-again c =
     let l = c .before .before .before .before .before .before .loop in
@@ -55,11 +45,9 @@ loop-again c =
       (omega (arith, p .kept), (omega arith, omega arith)),
     )
 
--- src/lay.rt:54:1
 same-length : tie.Need-same-length Inv-loop μ-loop
 same-length c = omega arith
 
--- src/lay.rt:54:1
 returns : tie.Need-returns Inv-loop μ-loop
 returns c =
     let l = c .before .loop in

@@ -1,3 +1,4 @@
+-- `files::lay::lay_image` meets its contract.
 use Prim.Native.Nat.{_+_, _-_, _*_, _≤_}
 use mathlib.Core.Path.{_≡_, refl, _∙_}
 use native.Mathlib.Omega.{arith}
@@ -7,9 +8,6 @@ use Rattle.files.specs.MemoryFile.{fileText}
 use Rattle.files.proofs.LayLaws.{lay-turn, lay-end}
 use Rattle.files.proofs.lay.lay_image.Statement.{statement}
 use Rattle.files.proofs.lay.lay_image.Tie as tie
-use Rattle.files.proofs.lay.lay_image.Reads as reads
-use Rattle.files.proofs.lay.lay_image.Lts as lts
-use Rattle.files.proofs.lay.lay_line.Reads as lay-line-reads
 
 abbrev Inv-loop : tie.InvT-loop
 Inv-loop image out₀ at pairs p₀ i₀ out p i = (put out p (fileText 12 (drop i image)) ≡ put out₀ at (fileText 12 image)) × ((length out ≡ length out₀) × ((p ≡ at + i * 13) × (i ≤ length image)))
@@ -17,35 +15,27 @@ Inv-loop image out₀ at pairs p₀ i₀ out p i = (put out p (fileText 12 (drop
 abbrev μ-loop : tie.MeasureT-loop
 μ-loop image out₀ at pairs p₀ i₀ out p i = length image - i
 
--- src/lay.rt:30:5
 loop-holds : tie.Need-loop-holds Inv-loop μ-loop
 loop-holds c = (refl, (refl, (omega arith, omega arith)))
 
--- src/lay.rt:31:30
 mul-lay-line : tie.Need-mul-lay-line Inv-loop μ-loop
 mul-lay-line c = omega arith
 
--- src/lay.rt:31:30
 shared-slice-read-lay-line : tie.Need-shared-slice-read-lay-line Inv-loop μ-loop
 shared-slice-read-lay-line c = omega arith
 
--- src/lay.rt:31:9
 lay-line-requires : tie.Need-lay-line-requires Inv-loop μ-loop
 lay-line-requires c κs = (omega arith, c .before .before .before .before .before .before .pre .1)
 
--- src/lay.rt:32:9
 add-p : tie.Need-add-p Inv-loop μ-loop
 add-p c = omega arith
 
--- src/lay.rt:33:9
 add-i : tie.Need-add-i Inv-loop μ-loop
 add-i c = omega arith
 
--- src/lay.rt:30:5
 loop-less : tie.Need-loop-less Inv-loop μ-loop
 loop-less c = omega arith
 
--- src/lay.rt:30:5
 loop-again : tie.Need-loop-again Inv-loop μ-loop
 loop-again c =
     let l = c .before .before .before .before .before .before .loop in
@@ -55,11 +45,9 @@ loop-again c =
       (omega (arith, p .kept), (omega arith, omega arith)),
     )
 
--- src/lay.rt:24:1
 same-length : tie.Need-same-length Inv-loop μ-loop
 same-length c = omega arith
 
--- src/lay.rt:24:1
 returns : tie.Need-returns Inv-loop μ-loop
 returns c =
     let l = c .before .loop in

@@ -1,28 +1,21 @@
-use Rattle.files.proofs.LayLaws.{line-laid}
+-- `files::lay::lay_line` meets its contract.
 use borrow.Author.Needs.{needs}
+use Rattle.files.proofs.LayLaws.{line-laid}
 use Rattle.files.proofs.lay.lay_line.Statement.{statement}
 use Rattle.files.proofs.lay.lay_line.Tie as tie
-use Rattle.files.proofs.lay.lay_line.Reads as reads
-use Rattle.files.proofs.lay.lay_line.Lts as lts
-use Rattle.text.proofs.digits.put_hex.Reads as put-hex-reads
 
--- src/lay.rt:19:5
 put-hex-requires : tie.Need-put-hex-requires
 put-hex-requires c κs = search needs
 
--- src/lay.rt:20:9
 add-out : tie.Need-add-out
 add-out c = search needs
 
--- src/lay.rt:20:5
 slice-write-out : tie.Need-slice-write-out
 slice-write-out c = search needs
 
--- src/lay.rt:15:1
 same-length : tie.Need-same-length
 same-length c = search needs
 
--- src/lay.rt:15:1
 returns : tie.Need-returns
 returns c =
     let a = c .before .before .before .before .before .args in

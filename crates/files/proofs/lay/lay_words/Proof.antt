@@ -1,3 +1,4 @@
+-- `files::lay::lay_words` meets its contract.
 use Prim.Native.Nat.{_+_, _-_, _*_, _≤_}
 use mathlib.Core.Path.{_≡_, refl, _∙_}
 use native.Mathlib.Omega.{arith}
@@ -7,9 +8,6 @@ use Rattle.files.specs.MemoryFile.{fileText}
 use Rattle.files.proofs.LayLaws.{lay-turn, lay-end}
 use Rattle.files.proofs.lay.lay_words.Statement.{statement}
 use Rattle.files.proofs.lay.lay_words.Tie as tie
-use Rattle.files.proofs.lay.lay_words.Reads as reads
-use Rattle.files.proofs.lay.lay_words.Lts as lts
-use Rattle.files.proofs.lay.lay_line.Reads as lay-line-reads
 
 abbrev Inv-loop : tie.InvT-loop
 Inv-loop words out₀ at pairs p₀ i₀ out p i = (put out p (fileText 8 (drop i words)) ≡ put out₀ at (fileText 8 words)) × ((length out ≡ length out₀) × ((p ≡ at + i * 9) × (i ≤ length words)))
@@ -17,39 +15,30 @@ Inv-loop words out₀ at pairs p₀ i₀ out p i = (put out p (fileText 8 (drop 
 abbrev μ-loop : tie.MeasureT-loop
 μ-loop words out₀ at pairs p₀ i₀ out p i = length words - i
 
--- src/lay.rt:45:5
 loop-holds : tie.Need-loop-holds Inv-loop μ-loop
 loop-holds c = (refl, (refl, (omega arith, omega arith)))
 
--- src/lay.rt:46:29
 mul-lay-line : tie.Need-mul-lay-line Inv-loop μ-loop
 mul-lay-line c = omega arith
 
--- src/lay.rt:46:29
 shared-slice-read-lay-line : tie.Need-shared-slice-read-lay-line Inv-loop μ-loop
 shared-slice-read-lay-line c = omega arith
 
--- src/lay.rt:46:29
 cast-lay-line : tie.Need-cast-lay-line Inv-loop μ-loop
 cast-lay-line c = omega (arith, c .shared-slice-known2 .given (c .before .before .before .loop .i))
 
--- src/lay.rt:46:9
 lay-line-requires : tie.Need-lay-line-requires Inv-loop μ-loop
 lay-line-requires c κs = (omega arith, c .before .before .before .before .before .before .pre .1)
 
--- src/lay.rt:47:9
 add-p : tie.Need-add-p Inv-loop μ-loop
 add-p c = omega arith
 
--- src/lay.rt:48:9
 add-i : tie.Need-add-i Inv-loop μ-loop
 add-i c = omega arith
 
--- src/lay.rt:45:5
 loop-less : tie.Need-loop-less Inv-loop μ-loop
 loop-less c = omega arith
 
--- src/lay.rt:45:5
 loop-again : tie.Need-loop-again Inv-loop μ-loop
 loop-again c =
     let l = c .before .before .before .before .before .before .loop in
@@ -59,11 +48,9 @@ loop-again c =
       (omega (arith, p .kept), (omega arith, omega arith)),
     )
 
--- src/lay.rt:39:1
 same-length : tie.Need-same-length Inv-loop μ-loop
 same-length c = omega arith
 
--- src/lay.rt:39:1
 returns : tie.Need-returns Inv-loop μ-loop
 returns c =
     let l = c .before .loop in

@@ -1,26 +1,20 @@
+-- `files::read::read_data` meets its contract.
 use lib.ListN.{length}
 use borrow.Author.Tests.{eq-eqb, ne-eqb}
-use Rattle.files.proofs.AnswerLaws.{read-wrong-length, read-asked}
 use borrow.Author.Needs.{needs}
+use Rattle.files.proofs.AnswerLaws.{read-wrong-length, read-asked}
 use Rattle.files.proofs.read.read_data.Statement.{statement}
 use Rattle.files.proofs.read.read_data.Tie as tie
-use Rattle.files.proofs.read.read_data.Reads as reads
-use Rattle.files.proofs.read.read_data.Lts as lts
-use Rattle.files.proofs.read.read_words.Reads as read-words-reads
 
--- src/read.rt:38:9
 returns : tie.Need-returns
 returns c = let a = c .before .before .before .args in read-wrong-length 8 _ (a .text .now) (a .memory .now) (ne-eqb (length (a .memory .now)) 4096 (c .if1 .taken))
 
--- src/read.rt:40:5
 read-words-requires : tie.Need-read-words-requires
 read-words-requires c κs = search needs
 
--- src/read.rt:34:1
 same-length : tie.Need-same-length
 same-length c = search needs
 
--- src/read.rt:34:1
 returns-2 : tie.Need-returns-2
 returns-2 c =
     let a = c .before .before .before .before .before .before .before .args in

@@ -1,33 +1,25 @@
+-- `files::read::read_disk` meets its contract.
 use mathlib.Core.Path.{sym, _∙_}
 use borrow.Author.Tests.{not-true, not-false}
-use Rattle.files.proofs.AnswerLaws.{read-wrong-length, read-asked}
 use borrow.Author.Needs.{needs}
+use Rattle.files.proofs.AnswerLaws.{read-wrong-length, read-asked}
 use Rattle.files.proofs.read.read_disk.Statement.{statement}
 use Rattle.files.proofs.read.read_disk.Tie as tie
-use Rattle.files.proofs.read.read_disk.Reads as reads
-use Rattle.files.proofs.read.read_disk.Lts as lts
-use Rattle.files.proofs.read.read_words.Reads as read-words-reads
-use Rattle.files.proofs.sizes.is_part.Reads as is-part-reads
 
--- src/read.rt:48:9
 is-part-requires : tie.Need-is-part-requires
 is-part-requires c κs = search needs
 
--- src/read.rt:49:9
 returns : tie.Need-returns
 returns c =
     let a = c .before .before .before .before .args in
     read-wrong-length 8 _ (a .text .now) (a .part .now) (sym (c .before .is-part .ensures) ∙ not-true _ (c .if1 .taken))
 
--- src/read.rt:51:5
 read-words-requires : tie.Need-read-words-requires
 read-words-requires c κs = search needs
 
--- src/read.rt:45:1
 same-length : tie.Need-same-length
 same-length c = search needs
 
--- src/read.rt:45:1
 returns-2 : tie.Need-returns-2
 returns-2 c =
     let a = c .before .before .before .before .before .before .before .before .args in

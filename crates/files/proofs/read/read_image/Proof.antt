@@ -1,73 +1,56 @@
-use Rattle.text.specs.Questions.{Told}
-use mathlib.Core.Path.{_≡_, refl, sym, _∙_, ap}
-use borrow.Author.Tests.{eq-eqb, ne-eqb}
+-- `files::read::read_image` meets its contract.
+use mathlib.Core.Path.{refl, sym, _∙_, ap}
 use lib.ListN.{length}
+use borrow.Author.Tests.{eq-eqb, ne-eqb}
+use borrow.Author.Needs.{needs}
+use Rattle.text.specs.Questions.{Told}
 use Rattle.files.specs.Answers.{fileReadTold}
 use Rattle.files.proofs.AnswerLaws.{read-wrong-length, read-refused, read-filled}
-use borrow.Author.Needs.{needs}
 use Rattle.files.proofs.read.read_image.Statement.{statement}
 use Rattle.files.proofs.read.read_image.Tie as tie
-use Rattle.files.proofs.read.read_image.Reads as reads
-use Rattle.files.proofs.read.read_image.Lts as lts
-use Rattle.files.proofs.check.check_words.Reads as check-words-reads
-use Rattle.files.proofs.fill.fill_image.Reads as fill-image-reads
-use Rattle.text.proofs.digits.digit_values.Reads as digit-values-reads
 
--- src/read.rt:19:9
 returns : tie.Need-returns
 returns c = let a = c .before .before .before .args in read-wrong-length 12 _ (a .text .now) (a .image .now) (ne-eqb (length (a .image .now)) 4096 (c .if1 .taken))
 
--- src/read.rt:21:18
 digit-values-requires : tie.Need-digit-values-requires
 digit-values-requires c κs = search needs
 
--- src/read.rt:22:11
 check-words-requires : tie.Need-check-words-requires
 check-words-requires c κs = search needs
 
--- src/read.rt:24:30
 enum-told : tie.Need-enum-told
 enum-told c = search needs
 
--- src/read.rt:24:13
 fill-image-requires : tie.Need-fill-image-requires
 fill-image-requires c κs = (ap (λ (t : Told). t .number) (sym (c .before .before .before .before .check-words .ensures) ∙ ap fileReadTold (c .before .before .enum-told .given .1)), c .before .before .before .before .before .before .digit-values .ensures)
 
--- src/read.rt:27:34
 enum-told-2 : tie.Need-enum-told-2
 enum-told-2 c = search needs
 
--- src/read.rt:28:26
 enum-known-line : tie.Need-enum-known-line
 enum-known-line c = search needs
 
--- src/read.rt:29:29
 enum-known-line-2 : tie.Need-enum-known-line-2
 enum-known-line-2 c = search needs
 
--- src/read.rt:15:1
 same-length : tie.Need-same-length
 same-length c = search needs
 
--- src/read.rt:15:1
 returns-2 : tie.Need-returns-2
 returns-2 c =
     let a = c .before .before .before .before .before .before .before .before .before .before .before .before .before .args in
     read-filled 12 _ (a .text .now) (a .image .now) (eq-eqb (length (a .image .now)) 4096 (c .before .before .before .before .before .before .before .before .before .before .if1 .left)) _ (sym (ap fileReadTold (c .before .before .before .before .before .enum-told .given .1)) ∙ c .before .before .before .before .before .before .before .check-words .ensures) (c .before .before .fill-image .ensures)
 
--- src/read.rt:15:1
 returns-3 : tie.Need-returns-3
 returns-3 c =
     let a = c .before .before .before .before .before .before .before .before .args in
     read-refused 12 _ (a .text .now) (a .image .now) (eq-eqb (length (a .image .now)) 4096 (c .before .before .before .before .before .if1 .left)) _ (sym (ap fileReadTold (c .enum-told2 .given .1)) ∙ c .before .before .check-words .ensures) refl
 
--- src/read.rt:15:1
 returns-4 : tie.Need-returns-4
 returns-4 c =
     let a = c .before .before .before .before .before .before .before .before .before .args in
     read-refused 12 _ (a .text .now) (a .image .now) (eq-eqb (length (a .image .now)) 4096 (c .before .before .before .before .before .before .if1 .left)) _ (sym (ap fileReadTold (c .before .line .given .1)) ∙ c .before .before .before .check-words .ensures) refl
 
--- src/read.rt:15:1
 returns-5 : tie.Need-returns-5
 returns-5 c =
     let a = c .before .before .before .before .before .before .before .before .before .args in

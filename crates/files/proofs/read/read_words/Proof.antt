@@ -1,68 +1,52 @@
-use Rattle.text.specs.Questions.{Told}
-use mathlib.Core.Path.{_≡_, refl, sym, _∙_, ap}
+-- `files::read::read_words` meets its contract.
+use mathlib.Core.Path.{refl, sym, _∙_, ap}
 use mathlib.Core.Bool.{true}
-use Rattle.files.specs.Answers.{fileReadTold}
-use Rattle.files.proofs.AnswerLaws.{read-wrong-length, read-refused, read-filled}
 use borrow.Author.Needs.{needs}
+use Rattle.text.specs.Questions.{Told}
+use Rattle.files.specs.Answers.{fileReadTold}
+use Rattle.files.proofs.AnswerLaws.{read-refused, read-filled}
 use Rattle.files.proofs.read.read_words.Statement.{statement}
 use Rattle.files.proofs.read.read_words.Tie as tie
-use Rattle.files.proofs.read.read_words.Reads as reads
-use Rattle.files.proofs.read.read_words.Lts as lts
-use Rattle.files.proofs.check.check_words.Reads as check-words-reads
-use Rattle.files.proofs.fill.fill_words.Reads as fill-words-reads
-use Rattle.text.proofs.digits.digit_values.Reads as digit-values-reads
 
--- src/read.rt:63:18
 digit-values-requires : tie.Need-digit-values-requires
 digit-values-requires c κs = search needs
 
--- src/read.rt:64:11
 check-words-requires : tie.Need-check-words-requires
 check-words-requires c κs = search needs
 
--- src/read.rt:66:30
 enum-told : tie.Need-enum-told
 enum-told c = search needs
 
--- src/read.rt:66:13
 fill-words-requires : tie.Need-fill-words-requires
 fill-words-requires c κs = (ap (λ (t : Told). t .number) (sym (c .before .before .before .before .check-words .ensures) ∙ ap fileReadTold (c .before .before .enum-told .given .1)), c .before .before .before .before .before .before .digit-values .ensures)
 
--- src/read.rt:69:34
 enum-told-2 : tie.Need-enum-told-2
 enum-told-2 c = search needs
 
--- src/read.rt:70:26
 enum-known-line : tie.Need-enum-known-line
 enum-known-line c = search needs
 
--- src/read.rt:71:29
 enum-known-line-2 : tie.Need-enum-known-line-2
 enum-known-line-2 c = search needs
 
--- src/read.rt:60:1
 same-length : tie.Need-same-length
 same-length c = search needs
 
--- src/read.rt:60:1
 returns : tie.Need-returns
 returns c =
     let a = c .before .before .before .before .before .before .before .before .before .before .before .before .args in
     read-filled 8 true (a .text .now) (a .memory .now) refl _ (sym (ap fileReadTold (c .before .before .before .before .before .enum-told .given .1)) ∙ c .before .before .before .before .before .before .before .check-words .ensures) (c .before .before .fill-words .ensures)
 
--- src/read.rt:60:1
 returns-2 : tie.Need-returns-2
 returns-2 c =
     let a = c .before .before .before .before .before .before .before .args in
     read-refused 8 true (a .text .now) (a .memory .now) refl _ (sym (ap fileReadTold (c .enum-told2 .given .1)) ∙ c .before .before .check-words .ensures) refl
 
--- src/read.rt:60:1
 returns-3 : tie.Need-returns-3
 returns-3 c =
     let a = c .before .before .before .before .before .before .before .before .args in
     read-refused 8 true (a .text .now) (a .memory .now) refl _ (sym (ap fileReadTold (c .before .line .given .1)) ∙ c .before .before .before .check-words .ensures) refl
 
--- src/read.rt:60:1
 returns-4 : tie.Need-returns-4
 returns-4 c =
     let a = c .before .before .before .before .before .before .before .before .args in

@@ -1,19 +1,14 @@
-use native.Mathlib.Omega.{arith}
+-- `files::sizes::is_part` meets its contract.
 use borrow.Author.Tests.{eq-eqb, ne-eqb, le-leb, lt-leb}
 use Rattle.files.proofs.sizes.is_part.Statement.{statement}
 use Rattle.files.proofs.sizes.is_part.Tie as tie
-use Rattle.files.proofs.sizes.is_part.Reads as reads
-use Rattle.files.proofs.sizes.is_part.Lts as lts
 
--- src/sizes.rt:10:9
 returns : tie.Need-returns
 returns c = rw (ne-eqb _ _ (c .if1 .taken))
 
--- src/sizes.rt:13:9
 returns-2 : tie.Need-returns-2
 returns-2 c = rw (eq-eqb _ _ (c .before .if1 .left), lt-leb _ _ (c .if2 .taken))
 
--- src/sizes.rt:6:1
 returns-3 : tie.Need-returns-3
 returns-3 c = rw (eq-eqb _ _ (c .before .if1 .left), le-leb _ _ (c .if2 .left))
 

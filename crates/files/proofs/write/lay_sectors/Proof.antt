@@ -1,16 +1,13 @@
-use Rattle.files.proofs.LayLaws.{length-sector, sector-turn, sector-end}
+-- `files::write::lay_sectors` meets its contract.
 use Prim.Native.Nat.{_+_, _-_, _*_, _≤_}
-use mathlib.Core.Path.{_≡_, refl, sym, _∙_, ap}
+use mathlib.Core.Path.{_≡_, refl, _∙_}
 use native.Mathlib.Omega.{arith}
-use lib.ListN.{length, take, drop, length-take, length-drop}
-use lib.Seq.{length-take-le}
+use lib.ListN.{length}
 use Rattle.text.specs.Place.{put}
+use Rattle.files.proofs.LayLaws.{length-sector, sector-turn, sector-end}
 use Rattle.files.specs.MemoryFile.{fileText, sectorsOf}
 use Rattle.files.proofs.write.lay_sectors.Statement.{statement}
 use Rattle.files.proofs.write.lay_sectors.Tie as tie
-use Rattle.files.proofs.write.lay_sectors.Reads as reads
-use Rattle.files.proofs.write.lay_sectors.Lts as lts
-use Rattle.files.proofs.lay.lay_words.Reads as lay-words-reads
 
 abbrev Inv-loop : tie.InvT-loop
 Inv-loop disk first sectors text₀ pairs at₀ s₀ text at s =
@@ -23,81 +20,65 @@ Inv-loop disk first sectors text₀ pairs at₀ s₀ text at s =
 abbrev μ-loop : tie.MeasureT-loop
 μ-loop disk first sectors text₀ pairs at₀ s₀ text at s = first + sectors - s
 
--- src/write.rt:94:5
 loop-holds : tie.Need-loop-holds Inv-loop μ-loop
 loop-holds c =
     let a = c .before .before .args in
     let all : a .first + a .sectors - a .first ≡ a .sectors = omega arith in
     (rw all, refl, omega arith, omega arith, omega arith)
 
--- src/write.rt:94:15
 add-loop : tie.Need-add-loop Inv-loop μ-loop
 add-loop c = omega arith
 
--- src/write.rt:95:30
 mul-lay-words : tie.Need-mul-lay-words Inv-loop μ-loop
 mul-lay-words c = omega arith
 
--- src/write.rt:95:39
 mul-lay-words-2 : tie.Need-mul-lay-words-2 Inv-loop μ-loop
 mul-lay-words-2 c = omega arith
 
--- src/write.rt:95:39
 add-lay-words : tie.Need-add-lay-words Inv-loop μ-loop
 add-lay-words c = omega arith
 
--- src/write.rt:95:24
 mul-lay-words-3 : tie.Need-mul-lay-words-3 Inv-loop μ-loop
 mul-lay-words-3 c = omega arith
 
--- src/write.rt:95:24
 sub-lay-words : tie.Need-sub-lay-words Inv-loop μ-loop
 sub-lay-words c = omega arith
 
--- src/write.rt:95:24
 part-lay-words-start : tie.Need-part-lay-words-start Inv-loop μ-loop
 part-lay-words-start c = omega arith
 
--- src/write.rt:95:24
 part-lay-words-end : tie.Need-part-lay-words-end Inv-loop μ-loop
 part-lay-words-end c = omega arith
 
--- src/write.rt:95:9
 lay-words-requires : tie.Need-lay-words-requires Inv-loop μ-loop
 lay-words-requires c κs =
     let l = c .before .before .before .loop in
-    let d = c .before .before .before .before .before .before .args .disk .now in
-    (rw (length-sector d (l .s) 0 (omega arith)) (omega arith), c .before .before .before .before .before .before .pre .1 .1 .1)
+    let size = length-sector (c .before .before .before .before .before .before .args .disk .now) (l .s) 0 (omega arith) in
+    (omega arith, c .before .before .before .before .before .before .pre .1 .1 .1)
 
--- src/write.rt:96:9
 add-s : tie.Need-add-s Inv-loop μ-loop
 add-s c = omega arith
 
--- src/write.rt:94:5
 loop-less : tie.Need-loop-less Inv-loop μ-loop
 loop-less c = omega arith
 
--- src/write.rt:94:5
 loop-again : tie.Need-loop-again Inv-loop μ-loop
 loop-again c =
     let l = c .before .before .before .before .before .before .loop in
     let a = c .before .before .before .before .before .before .before .before .before .args in
     let w = c .before .before .lay-words in
     let inside : 128 * l .s + 128 ≤ length (a .disk .now) = omega arith in
-    let size = length-sector (a .disk .now) (l .s) 0 inside in
-    let to : w .result ≡ l .at + 1152 = w .ensures .1 ∙ rw size in (
-      sector-turn (a .disk .now) (l .s) (a .first + a .sectors) (l .text) _ (l .at) (w .result) (omega arith) inside (w .ensures .0) to ∙ l .inv .0,
+    let size = length-sector (a .disk .now) (l .s) 0 inside in (
+      sector-turn (a .disk .now) (l .s) (a .first + a .sectors) (l .text) _ (l .at) (w .result) (omega arith) inside (w .ensures .0) (omega arith) ∙ l .inv .0,
       omega (arith, w .kept),
       omega arith,
       omega arith,
       omega arith,
     )
 
--- src/write.rt:82:1
 same-length : tie.Need-same-length Inv-loop μ-loop
 same-length c = c .before .loop .inv .1
 
--- src/write.rt:82:1
 returns : tie.Need-returns Inv-loop μ-loop
 returns c =
     let l = c .before .loop in

@@ -1,42 +1,31 @@
-use mathlib.Core.Path.{_≡_, refl, _∙_, ap}
-use mathlib.Core.Bool.{Bool}
+-- `files::write::write_data` meets its contract.
 use native.Mathlib.Omega.{arith}
 use lib.ListN.{length}
 use borrow.Author.Tests.{eq-eqb, ne-eqb}
+use borrow.Author.Needs.{needs}
 use Rattle.files.specs.MemoryFile.{fileText}
 use Rattle.files.proofs.LayLaws.{length-text}
 use Rattle.files.proofs.AnswerLaws.{wrong-length, no-room, wrote}
-use borrow.Author.Needs.{needs}
 use Rattle.files.proofs.write.write_data.Statement.{statement}
 use Rattle.files.proofs.write.write_data.Tie as tie
-use Rattle.files.proofs.write.write_data.Reads as reads
-use Rattle.files.proofs.write.write_data.Lts as lts
-use Rattle.files.proofs.lay.lay_words.Reads as lay-words-reads
-use Rattle.text.proofs.digits.hex_pairs.Reads as hex-pairs-reads
 
--- src/write.rt:35:9
 returns : tie.Need-returns
 returns c = let a = c .before .before .before .args in wrong-length _ (fileText 8 (a .memory .now)) (a .text .now) (ne-eqb (length (a .memory .now)) 4096 (c .if1 .taken))
 
--- src/write.rt:38:9
 returns-2 : tie.Need-returns-2
 returns-2 c =
     let a = c .before .before .before .before .args in
     no-room _ (fileText 8 (a .memory .now)) (a .text .now) (eq-eqb (length (a .memory .now)) 4096 (c .before .if1 .left)) (rw length-text (omega arith))
 
--- src/write.rt:40:17
 hex-pairs-requires : tie.Need-hex-pairs-requires
 hex-pairs-requires c κs = search needs
 
--- src/write.rt:41:20
 lay-words-requires : tie.Need-lay-words-requires
 lay-words-requires c κs = search needs
 
--- src/write.rt:31:1
 same-length : tie.Need-same-length
 same-length c = search needs
 
--- src/write.rt:31:1
 returns-3 : tie.Need-returns-3
 returns-3 c =
     let a = c .before .before .before .before .before .before .before .before .before .before .args in

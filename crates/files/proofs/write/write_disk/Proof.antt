@@ -1,65 +1,53 @@
+-- `files::write::write_disk` meets its contract.
 use mathlib.Core.Path.{_≡_, sym, _∙_}
 use mathlib.Core.Bool.{true}
 use native.Mathlib.Omega.{arith}
 use lib.ListN.{length}
 use borrow.Author.Tests.{not-true, not-false}
+use borrow.Author.Needs.{needs}
 use Rattle.files.specs.Sizes.{isPartOf}
 use Rattle.files.specs.MemoryFile.{fileText, sectorsOf}
 use Rattle.files.proofs.SizeLaws.{part-words, part-within, length-part}
 use Rattle.files.proofs.AnswerLaws.{wrong-length, no-room, wrote}
-use borrow.Author.Needs.{needs}
 use Rattle.files.proofs.write.write_disk.Statement.{statement}
 use Rattle.files.proofs.write.write_disk.Tie as tie
-use Rattle.files.proofs.write.write_disk.Reads as reads
-use Rattle.files.proofs.write.write_disk.Lts as lts
-use Rattle.files.proofs.sizes.is_part_of.Reads as is-part-of-reads
-use Rattle.files.proofs.write.lay_sectors.Reads as lay-sectors-reads
-use Rattle.text.proofs.digits.hex_pairs.Reads as hex-pairs-reads
 
 -- The disk and the part were asked.
 part-yes : (c : tie.Else1) → isPartOf (length (c .before .before .before .before .args .disk .now)) (c .before .before .before .before .args .first) (c .before .before .before .before .args .sectors) ≡ true
 part-yes c = sym (c .before .is-part-of .ensures) ∙ not-false _ (c .if1 .left)
 
--- src/write.rt:63:9
 is-part-of-requires : tie.Need-is-part-of-requires
 is-part-of-requires c κs = search needs
 
--- src/write.rt:64:9
 returns : tie.Need-returns
 returns c =
     let a = c .before .before .before .before .args in
     wrong-length _ (fileText 8 (sectorsOf (a .disk .now) (a .first) (a .sectors))) (a .text .now) (sym (c .before .is-part-of .ensures) ∙ not-true _ (c .if1 .taken))
 
--- src/write.rt:66:21
 mul-if2 : tie.Need-mul-if2
 mul-if2 c =
     let a = c .before .before .before .before .args in
     let within = part-within (length (a .disk .now)) (a .first) (a .sectors) (part-yes c) in
     omega arith
 
--- src/write.rt:67:9
 returns-2 : tie.Need-returns-2
 returns-2 c =
     let a = c .before .before .before .before .before .args in
     let yes-part = part-yes (c .before) in
     no-room _ (fileText 8 (sectorsOf (a .disk .now) (a .first) (a .sectors))) (a .text .now) yes-part (rw (length-part (a .disk .now) (a .first) (a .sectors) yes-part) (omega arith))
 
--- src/write.rt:69:17
 hex-pairs-requires : tie.Need-hex-pairs-requires
 hex-pairs-requires c κs = search needs
 
--- src/write.rt:70:20
 lay-sectors-requires : tie.Need-lay-sectors-requires
 lay-sectors-requires c κs =
     let a = c .before .before .before .before .before .before .before .before .args in
     let h = part-yes (c .before .before .before .before) in
     (part-words (length (a .disk .now)) (a .first) (a .sectors) h, (part-within (length (a .disk .now)) (a .first) (a .sectors) h, (omega arith, c .before .before .hex-pairs .ensures)))
 
--- src/write.rt:60:1
 same-length : tie.Need-same-length
 same-length c = search needs
 
--- src/write.rt:60:1
 returns-3 : tie.Need-returns-3
 returns-3 c =
     let a = c .before .before .before .before .before .before .before .before .before .before .before .args in

@@ -1,33 +1,25 @@
+-- `text::decimal::put_decimal` meets its contract.
+use Prim.Native.Nat.{ℕ}
 use mathlib.Core.Path.{_∙_, ap}
 use native.Mathlib.Omega.{arith}
-use Prim.Native.Nat.{ℕ}
-use Rattle.text.specs.Numerals.{digits, digitCount, decimal}
-use Rattle.text.specs.Place.{put}
 use borrow.Author.Needs.{needs}
+use Rattle.text.specs.Numerals.{digits, decimal}
+use Rattle.text.specs.Place.{put}
 use Rattle.text.proofs.decimal.put_decimal.Statement.{statement}
 use Rattle.text.proofs.decimal.put_decimal.Tie as tie
-use Rattle.text.proofs.decimal.put_decimal.Reads as reads
-use Rattle.text.proofs.decimal.put_decimal.Lts as lts
-use Rattle.text.proofs.decimal.digit_count.Reads as digit-count-reads
-use Rattle.text.proofs.decimal.put_digits.Reads as put-digits-reads
 
--- src/decimal.rt:28:9
 digit-count-requires : tie.Need-digit-count-requires
 digit-count-requires c κs = search needs
 
--- src/decimal.rt:29:5
 put-digits-requires : tie.Need-put-digits-requires
 put-digits-requires c κs = search needs
 
--- src/decimal.rt:30:5
 add-result : tie.Need-add-result
 add-result c = search needs
 
--- src/decimal.rt:24:1
 same-length : tie.Need-same-length
 same-length c = search needs
 
--- src/decimal.rt:24:1
 returns : tie.Need-returns
 unfolding decimal
 returns c =

@@ -1,3 +1,4 @@
+-- `text::digits::all_digits` meets its contract.
 use Prim.Native.Nat.{_-_, _≤_}
 use mathlib.Core.Path.{_≡_, refl, _∙_}
 use native.Mathlib.Omega.{arith}
@@ -6,9 +7,6 @@ use Rattle.text.specs.Numerals.{allDigits}
 use Rattle.text.proofs.DigitLaws.{all-more, all-stop, all-end}
 use Rattle.text.proofs.digits.all_digits.Statement.{statement}
 use Rattle.text.proofs.digits.all_digits.Tie as tie
-use Rattle.text.proofs.digits.all_digits.Reads as reads
-use Rattle.text.proofs.digits.all_digits.Lts as lts
-use Rattle.text.proofs.digits.digit_at.Reads as digit-at-reads
 
 abbrev Inv-loop : tie.InvT-loop
 Inv-loop s base values i₀ i = (allDigits base (drop i s) ≡ allDigits base s) × (i ≤ length s)
@@ -16,37 +14,30 @@ Inv-loop s base values i₀ i = (allDigits base (drop i s) ≡ allDigits base s)
 abbrev μ-loop : tie.MeasureT-loop
 μ-loop s base values i₀ i = length s - i
 
--- src/digits.rt:96:5
 loop-holds : tie.Need-loop-holds Inv-loop μ-loop
 loop-holds c = (refl, omega arith)
 
--- src/digits.rt:97:20
 digit-at-requires : tie.Need-digit-at-requires Inv-loop μ-loop
 digit-at-requires c κs = (omega arith, c .before .before .before .pre)
 
--- src/digits.rt:98:13
 returns : tie.Need-returns Inv-loop μ-loop
 returns c =
     let l = c .before .before .before .loop in
     let a = c .before .before .before .before .before .args in
     all-stop (a .base) (l .i) (a .s .now) (omega arith) _ (c .before .digit-at .ensures) (c .if1 .taken) ∙ l .inv .0
 
--- src/digits.rt:100:9
 add-i : tie.Need-add-i Inv-loop μ-loop
 add-i c = omega arith
 
--- src/digits.rt:96:5
 loop-less : tie.Need-loop-less Inv-loop μ-loop
 loop-less c = omega arith
 
--- src/digits.rt:96:5
 loop-again : tie.Need-loop-again Inv-loop μ-loop
 loop-again c =
     let l = c .before .before .before .loop in
     let a = c .before .before .before .before .before .args in
     (all-more (a .base) (l .i) (a .s .now) (omega arith) _ (c .before .digit-at .ensures) (c .if1 .left) ∙ l .inv .0, omega arith)
 
--- src/digits.rt:91:1
 returns-2 : tie.Need-returns-2 Inv-loop μ-loop
 returns-2 c =
     let l = c .before .loop in

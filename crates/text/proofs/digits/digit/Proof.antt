@@ -1,23 +1,18 @@
+-- `text::digits::digit` meets its contract.
 use borrow.Author.Tests.{lt-ltb, le-ltb}
 use borrow.Author.Needs.{needs}
 use Rattle.text.proofs.digits.digit.Statement.{statement}
 use Rattle.text.proofs.digits.digit.Tie as tie
-use Rattle.text.proofs.digits.digit.Reads as reads
-use Rattle.text.proofs.digits.digit.Lts as lts
 
--- src/digits.rt:15:17
 add-result : tie.Need-add-result
 add-result c = search needs
 
--- src/digits.rt:15:33
 add-result-2 : tie.Need-add-result-2
 add-result-2 c = search needs
 
--- src/digits.rt:11:1
 returns : tie.Need-returns
 returns c = rw (lt-ltb _ _ (c .if1 .taken))
 
--- src/digits.rt:11:1
 returns-2 : tie.Need-returns-2
 returns-2 c = rw (le-ltb _ _ (c .if1 .left))
 

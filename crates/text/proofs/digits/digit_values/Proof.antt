@@ -1,3 +1,4 @@
+-- `text::digits::digit_values` meets its contract.
 use Prim.Native.Nat.{ℕ, _-_, _%_, _≤_, _<_}
 use mathlib.Core.Path.{_≡_, refl, _∙_, ap}
 use native.Mathlib.Nat.{mod-eq-of-lt, not-suc-le-zero}
@@ -7,9 +8,6 @@ use Rattle.text.specs.Numerals.{digitValue}
 use Rattle.text.proofs.TableLaws.{filled-more}
 use Rattle.text.proofs.digits.digit_values.Statement.{statement}
 use Rattle.text.proofs.digits.digit_values.Tie as tie
-use Rattle.text.proofs.digits.digit_values.Reads as reads
-use Rattle.text.proofs.digits.digit_values.Lts as lts
-use Rattle.text.proofs.digits.digit_value.Reads as digit-value-reads
 
 abbrev Inv-loop : tie.InvT-loop
 Inv-loop table₀ c₀ table c = (length table ≡ 256) × ((c ≤ 256) × ((k : ℕ) → k < c → getD table k 0 ≡ digitValue k))
@@ -17,31 +15,24 @@ Inv-loop table₀ c₀ table c = (length table ≡ 256) × ((c ≤ 256) × ((k :
 abbrev μ-loop : tie.MeasureT-loop
 μ-loop table₀ c₀ table c = 256 - c
 
--- src/digits.rt:36:5
 loop-holds : tie.Need-loop-holds Inv-loop μ-loop
 loop-holds c = (refl, (omega arith, λ k h. absurd (not-suc-le-zero h)))
 
--- src/digits.rt:37:32
 cast-digit-value : tie.Need-cast-digit-value Inv-loop μ-loop
 cast-digit-value c = omega arith
 
--- src/digits.rt:37:20
 digit-value-requires : tie.Need-digit-value-requires Inv-loop μ-loop
 digit-value-requires c κs = omega arith
 
--- src/digits.rt:37:9
 array-write-table : tie.Need-array-write-table Inv-loop μ-loop
 array-write-table c = omega arith
 
--- src/digits.rt:38:9
 add-c : tie.Need-add-c Inv-loop μ-loop
 add-c c = omega arith
 
--- src/digits.rt:36:5
 loop-less : tie.Need-loop-less Inv-loop μ-loop
 loop-less c = omega arith
 
--- src/digits.rt:36:5
 loop-again : tie.Need-loop-again Inv-loop μ-loop
 loop-again c =
     let l = c .before .before .loop in
@@ -54,7 +45,6 @@ loop-again c =
       ),
     )
 
--- src/digits.rt:31:1
 returns : tie.Need-returns Inv-loop μ-loop
 returns c = λ k h. c .before .loop .inv .1 .1 k (omega arith)
 

@@ -1,3 +1,4 @@
+-- `text::digits::hex_pairs` meets its contract.
 use Prim.Native.Nat.{ℕ, _+_, _-_, _*_, _/_, _%_, _≤_, _<_}
 use mathlib.Core.Path.{_≡_, refl, _∙_, ap}
 use native.Mathlib.Nat.{mod-eq-of-lt, not-suc-le-zero}
@@ -7,9 +8,6 @@ use Rattle.text.specs.Numerals.{digit}
 use Rattle.text.proofs.TableLaws.{filled-more}
 use Rattle.text.proofs.digits.hex_pairs.Statement.{statement}
 use Rattle.text.proofs.digits.hex_pairs.Tie as tie
-use Rattle.text.proofs.digits.hex_pairs.Reads as reads
-use Rattle.text.proofs.digits.hex_pairs.Lts as lts
-use Rattle.text.proofs.digits.hex_pair.Reads as hex-pair-reads
 
 -- What entry k is to hold.
 abbrev pair : ℕ → ℕ
@@ -21,35 +19,27 @@ Inv-loop table₀ n₀ table n = (length table ≡ 256) × ((n ≤ 256) × ((k :
 abbrev μ-loop : tie.MeasureT-loop
 μ-loop table₀ n₀ table n = 256 - n
 
--- src/digits.rt:49:5
 loop-holds : tie.Need-loop-holds Inv-loop μ-loop
 loop-holds c = (refl, (omega arith, λ k h. absurd (not-suc-le-zero h)))
 
--- src/digits.rt:50:29
 cast-hex-pair : tie.Need-cast-hex-pair Inv-loop μ-loop
 cast-hex-pair c = omega arith
 
--- src/digits.rt:50:20
 hex-pair-requires : tie.Need-hex-pair-requires Inv-loop μ-loop
 hex-pair-requires c κs = omega arith
 
--- src/digits.rt:50:9
 mul-table : tie.Need-mul-table Inv-loop μ-loop
 mul-table c = omega arith
 
--- src/digits.rt:50:9
 array-write-table : tie.Need-array-write-table Inv-loop μ-loop
 array-write-table c = omega arith
 
--- src/digits.rt:51:9
 add-n : tie.Need-add-n Inv-loop μ-loop
 add-n c = omega arith
 
--- src/digits.rt:49:5
 loop-less : tie.Need-loop-less Inv-loop μ-loop
 loop-less c = omega arith
 
--- src/digits.rt:49:5
 loop-again : tie.Need-loop-again Inv-loop μ-loop
 loop-again c =
     let l = c .before .before .loop in
@@ -62,7 +52,6 @@ loop-again c =
       ),
     )
 
--- src/digits.rt:44:1
 returns : tie.Need-returns Inv-loop μ-loop
 returns c = λ k h. c .before .loop .inv .1 .1 k (omega arith)
 

@@ -1,18 +1,13 @@
-use Rattle.text.proofs.WriteLaws.{write-none, write-single}
-use Prim.Native.Nat.{_+_, _/_, _≤_}
+-- `text::digits::put_hex` meets its contract.
+use Prim.Native.Nat.{_≤_}
 use mathlib.Core.Path.{_≡_, _∙_, refl}
 use native.Mathlib.Omega.{arith}
 use lib.ListN.{length, length-set}
+use Rattle.text.proofs.WriteLaws.{write-none, write-single, write-last}
 use Rattle.text.specs.Numerals.{digits}
 use Rattle.text.specs.Place.{put}
-use Rattle.text.proofs.PutLaws.{put-nil}
-use Rattle.text.proofs.WriteLaws.{write-one, write-last}
 use Rattle.text.proofs.digits.put_hex.Statement.{statement}
 use Rattle.text.proofs.digits.put_hex.Tie as tie
-use Rattle.text.proofs.digits.put_hex.Reads as reads
-use Rattle.text.proofs.digits.put_hex.Lts as lts
-use Rattle.text.proofs.digits.digit.Reads as digit-reads
-use Rattle.text.proofs.digits.put_pair.Reads as put-pair-reads
 
 abbrev Inv-loop : tie.InvT-loop
 Inv-loop out₀ at k v pairs left₀ rest₀ out left rest = (put out at (digits 16 left rest) ≡ put out₀ at (digits 16 k v)) × ((length out ≡ length out₀) × (left ≤ k))
@@ -20,23 +15,18 @@ Inv-loop out₀ at k v pairs left₀ rest₀ out left rest = (put out at (digits
 abbrev μ-loop : tie.MeasureT-loop
 μ-loop out₀ at k v pairs left₀ rest₀ out left rest = left
 
--- src/digits.rt:70:5
 loop-holds : tie.Need-loop-holds Inv-loop μ-loop
 loop-holds c = (refl, (refl, omega arith))
 
--- src/digits.rt:72:23
 add-put-pair : tie.Need-add-put-pair Inv-loop μ-loop
 add-put-pair c = omega arith
 
--- src/digits.rt:72:9
 put-pair-requires : tie.Need-put-pair-requires Inv-loop μ-loop
 put-pair-requires c κs = (omega arith, (omega arith, c .before .before .before .before .pre .1))
 
--- src/digits.rt:70:5
 loop-less : tie.Need-loop-less Inv-loop μ-loop
 loop-less c = omega arith
 
--- src/digits.rt:70:5
 loop-again : tie.Need-loop-again Inv-loop μ-loop
 loop-again c =
     let l = c .before .before .before .before .before .loop in
@@ -46,33 +36,26 @@ loop-again c =
       (omega (arith, p .kept), omega arith),
     )
 
--- src/digits.rt:76:25
 cast-digit : tie.Need-cast-digit Inv-loop μ-loop
 cast-digit c = omega arith
 
--- src/digits.rt:76:19
 digit-requires : tie.Need-digit-requires Inv-loop μ-loop
 digit-requires c κs = omega arith
 
--- src/digits.rt:76:9
 slice-write-out : tie.Need-slice-write-out Inv-loop μ-loop
 slice-write-out c = omega arith
 
--- src/digits.rt:64:1
 same-length : tie.Need-same-length Inv-loop μ-loop
 same-length c = simp length-set (c .before .before .before .loop .inv .1 .0)
 
--- src/digits.rt:64:1
 returns : tie.Need-returns Inv-loop μ-loop
 returns c =
     let l = c .before .before .before .loop in
     write-single 16 (l .out) (c .before .before .before .before .before .args .at) (l .left) (l .rest) _ (c .before .if1 .taken) (c .digit .ensures) ∙ l .inv .0
 
--- src/digits.rt:64:1
 same-length-2 : tie.Need-same-length-2 Inv-loop μ-loop
 same-length-2 c = c .before .before .loop .inv .1 .0
 
--- src/digits.rt:64:1
 returns-2 : tie.Need-returns-2 Inv-loop μ-loop
 returns-2 c =
     let l = c .before .before .loop in

@@ -1,45 +1,35 @@
+-- `text::digits::put_pair` meets its contract.
 use native.Mathlib.Omega.{arith}
 use lib.ListN.{length-set}
-use Rattle.text.proofs.WriteLaws.{write-pair}
 use borrow.Author.Needs.{needs}
+use Rattle.text.proofs.WriteLaws.{write-pair}
 use Rattle.text.proofs.digits.put_pair.Statement.{statement}
 use Rattle.text.proofs.digits.put_pair.Tie as tie
-use Rattle.text.proofs.digits.put_pair.Reads as reads
-use Rattle.text.proofs.digits.put_pair.Lts as lts
 
--- src/digits.rt:85:16
 mul-pair : tie.Need-mul-pair
 mul-pair c = search needs
 
--- src/digits.rt:85:16
 element-copy-out-pair : tie.Need-element-copy-out-pair
 element-copy-out-pair c = search needs
 
--- src/digits.rt:86:15
 cast-out : tie.Need-cast-out
 cast-out c = search needs
 
--- src/digits.rt:86:5
 slice-write-out : tie.Need-slice-write-out
 slice-write-out c = search needs
 
--- src/digits.rt:87:19
 cast-out-2 : tie.Need-cast-out-2
 cast-out-2 c = search needs
 
--- src/digits.rt:87:9
 add-out : tie.Need-add-out
 add-out c = search needs
 
--- src/digits.rt:87:5
 slice-write-out-2 : tie.Need-slice-write-out-2
 slice-write-out-2 c = simp length-set (omega arith)
 
--- src/digits.rt:81:1
 same-length : tie.Need-same-length
 same-length c = search needs
 
--- src/digits.rt:81:1
 returns : tie.Need-returns
 returns c = write-pair (c .before .args .out .now) (c .before .args .at) (c .before .args .n) _ (c .before .pre .1 .0) (c .before .pre .1 .1 (c .before .args .n) (c .before .pre .1 .0))
 

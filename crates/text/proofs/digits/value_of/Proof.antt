@@ -1,3 +1,4 @@
+-- `text::digits::value_of` meets its contract.
 use Prim.Native.Nat.{ℕ, _+_, _-_, _*_, _^_, _≤_, _<_}
 use mathlib.Core.Path.{_≡_, refl, _∙_}
 use mathlib.Core.Bool.{true}
@@ -8,9 +9,6 @@ use Rattle.text.specs.Numerals.{digitValue, allDigits, valueAfter, value
 use Rattle.text.proofs.DigitLaws.{digit-good, digits-good, value-more, value-fits, value-end}
 use Rattle.text.proofs.digits.value_of.Statement.{statement}
 use Rattle.text.proofs.digits.value_of.Tie as tie
-use Rattle.text.proofs.digits.value_of.Reads as reads
-use Rattle.text.proofs.digits.value_of.Lts as lts
-use Rattle.text.proofs.digits.digit_at.Reads as digit-at-reads
 
 abbrev Inv-loop : tie.InvT-loop
 Inv-loop s base values acc₀ i₀ acc i = (valueAfter base acc (drop i s) ≡ value base s) × (allDigits base (drop i s) ≡ true) × (acc < base ^ i) × (i ≤ length s)
@@ -27,31 +25,24 @@ fitting c d e =
     let good = digit-good (a .base) (l .i) (a .s .now) (c .loop-test .taken) d e (l .inv .1) in
     value-fits (a .base) (l .i) (a .s .now) (c .loop-test .taken) d e (l .acc) (2 ^ 64) (l .inv .2) good (c .before .before .before .pre .1 .0)
 
--- src/digits.rt:112:5
 loop-holds : tie.Need-loop-holds Inv-loop μ-loop
 loop-holds c = (refl, c .before .pre .0, rw pow-zero (omega arith), omega arith)
 
--- src/digits.rt:113:15
 mul-acc : tie.Need-mul-acc Inv-loop μ-loop
 mul-acc c = omega (arith, fitting c _ refl)
 
--- src/digits.rt:113:28
 digit-at-requires : tie.Need-digit-at-requires Inv-loop μ-loop
 digit-at-requires c κs = (omega arith, c .before .before .before .pre .1 .1)
 
--- src/digits.rt:113:15
 add-acc : tie.Need-add-acc Inv-loop μ-loop
 add-acc c = omega (arith, fitting (c .before) _ (c .digit-at .ensures))
 
--- src/digits.rt:114:9
 add-i : tie.Need-add-i Inv-loop μ-loop
 add-i c = omega arith
 
--- src/digits.rt:112:5
 loop-less : tie.Need-loop-less Inv-loop μ-loop
 loop-less c = omega arith
 
--- src/digits.rt:112:5
 loop-again : tie.Need-loop-again Inv-loop μ-loop
 loop-again c =
     let l = c .before .before .loop in
@@ -63,7 +54,6 @@ loop-again c =
       omega arith,
     )
 
--- src/digits.rt:106:1
 returns : tie.Need-returns Inv-loop μ-loop
 returns c =
     let l = c .before .loop in

@@ -1,19 +1,15 @@
+-- `text::lines::ends_line` meets its contract.
 use borrow.Author.Tests.{lt-ltb, le-ltb}
 use borrow.Author.Needs.{needs}
 use Rattle.text.proofs.lines.ends_line.Statement.{statement}
 use Rattle.text.proofs.lines.ends_line.Tie as tie
-use Rattle.text.proofs.lines.ends_line.Reads as reads
-use Rattle.text.proofs.lines.ends_line.Lts as lts
 
--- src/lines.rt:30:16
 shared-slice-read-result : tie.Need-shared-slice-read-result
 shared-slice-read-result c = search needs
 
--- src/lines.rt:30:9
 returns : tie.Need-returns
 returns c = rw (lt-ltb _ _ (c .before .if1 .taken))
 
--- src/lines.rt:26:1
 returns-2 : tie.Need-returns-2
 returns-2 c = rw (le-ltb _ _ (c .if1 .left))
 

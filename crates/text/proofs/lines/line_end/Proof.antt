@@ -1,3 +1,4 @@
+-- `text::lines::line_end` meets its contract.
 use Prim.Native.Nat.{_+_, _-_, _≤_}
 use mathlib.Core.Path.{_≡_, _∙_, refl}
 use native.Mathlib.Omega.{arith}
@@ -6,8 +7,6 @@ use Rattle.text.specs.Lines.{firstLine}
 use Rattle.text.proofs.LineLaws.{end-more, end-here, end-past}
 use Rattle.text.proofs.lines.line_end.Statement.{statement}
 use Rattle.text.proofs.lines.line_end.Tie as tie
-use Rattle.text.proofs.lines.line_end.Reads as reads
-use Rattle.text.proofs.lines.line_end.Lts as lts
 
 abbrev Inv-loop : tie.InvT-loop
 Inv-loop s from at₀ at = (at + length (firstLine (drop at s)) ≡ from + length (firstLine (drop from s))) × (at ≤ length s)
@@ -15,37 +14,30 @@ Inv-loop s from at₀ at = (at + length (firstLine (drop at s)) ≡ from + lengt
 abbrev μ-loop : tie.MeasureT-loop
 μ-loop s from at₀ at = length s - at
 
--- src/lines.rt:16:5
 loop-holds : tie.Need-loop-holds Inv-loop μ-loop
 loop-holds c = (refl, omega arith)
 
--- src/lines.rt:17:12
 shared-slice-read-if1 : tie.Need-shared-slice-read-if1 Inv-loop μ-loop
 shared-slice-read-if1 c = omega arith
 
--- src/lines.rt:18:13
 returns : tie.Need-returns Inv-loop μ-loop
 returns c =
     let l = c .before .before .before .loop in
     let s = c .before .before .before .before .args .s .now in
     (end-here s (l .at) (omega arith) (c .if1 .taken) ∙ l .inv .0, omega arith)
 
--- src/lines.rt:20:9
 add-at : tie.Need-add-at Inv-loop μ-loop
 add-at c = omega arith
 
--- src/lines.rt:16:5
 loop-less : tie.Need-loop-less Inv-loop μ-loop
 loop-less c = omega arith
 
--- src/lines.rt:16:5
 loop-again : tie.Need-loop-again Inv-loop μ-loop
 loop-again c =
     let l = c .before .before .before .loop in
     let s = c .before .before .before .before .args .s .now in
     (end-more s (l .at) (omega arith) (c .if1 .left) ∙ l .inv .0, omega arith)
 
--- src/lines.rt:11:1
 returns-2 : tie.Need-returns-2 Inv-loop μ-loop
 returns-2 c =
     let l = c .before .loop in

@@ -1,0 +1,79 @@
+-- The definitions computed on small texts. A text is written as its bytes: 48 is `0`, 65 `A`, 97 `a`, 10 LF.
+use mathlib.Core.Path.{_≡_, refl}
+use mathlib.Core.Bool.{true, false}
+use mathlib.Core.List.{List, [], _∷_}
+use Prim.Native.Nat.{ℕ}
+use Rattle.text.specs.Questions.{Told, Question, accepted, refused, firstNo, firstBad}
+use Rattle.text.specs.Numerals.{digits, allDigits, valueAfter, value, digitCount, digitCountUpTo, decimal}
+use Rattle.text.specs.Lines.{lines, firstLine, unlines}
+use Rattle.text.specs.Place.{put}
+
+-- 0x2BF in four hexadecimal digits is `02BF`, and in two, its low ones, `BF`.
+four-digits : digits 16 4 0x2BF ≡ 48 ∷ 50 ∷ 66 ∷ 70 ∷ []
+unfolding digits
+four-digits = refl
+
+two-digits : digits 16 2 0x2BF ≡ 66 ∷ 70 ∷ []
+unfolding digits
+two-digits = refl
+
+-- `02bF` are digits and stand for 0x2BF; in base 10 `b` is none.
+either-case : value 16 (48 ∷ 50 ∷ 98 ∷ 70 ∷ []) ≡ 0x2BF
+unfolding valueAfter
+either-case = refl
+
+all-hexadecimal : allDigits 16 (48 ∷ 50 ∷ 98 ∷ 70 ∷ []) ≡ true
+unfolding allDigits
+all-hexadecimal = refl
+
+not-decimal : allDigits 10 (48 ∷ 50 ∷ 98 ∷ 70 ∷ []) ≡ false
+unfolding allDigits
+not-decimal = refl
+
+-- 0 is `0`, 1024 is `1024`.
+zero-decimal : decimal 0 ≡ 48 ∷ []
+unfolding decimal digits digitCount digitCountUpTo
+zero-decimal = refl
+
+clock-decimal : decimal 1024 ≡ 49 ∷ 48 ∷ 50 ∷ 52 ∷ []
+unfolding decimal digits digitCount digitCountUpTo
+clock-decimal = refl
+
+-- `A` LF and `A` are one line each; the empty text is none, an LF alone an empty one.
+line-with-lf : lines (65 ∷ 10 ∷ []) ≡ (65 ∷ []) ∷ []
+unfolding lines
+line-with-lf = refl
+
+line-without-lf : lines (65 ∷ []) ≡ (65 ∷ []) ∷ []
+unfolding lines
+line-without-lf = refl
+
+no-line : lines [] ≡ []
+unfolding lines
+no-line = refl
+
+empty-line : lines (10 ∷ []) ≡ [] ∷ []
+unfolding lines
+empty-line = refl
+
+two-lines : unlines ((65 ∷ []) ∷ [] ∷ []) ≡ 65 ∷ 10 ∷ 10 ∷ []
+unfolding unlines
+two-lines = refl
+
+-- Two bytes laid at place 1 of four.
+laid : put (1 ∷ 2 ∷ 3 ∷ 4 ∷ []) 1 (8 ∷ 9 ∷ []) ≡ 1 ∷ 8 ∷ 9 ∷ 4 ∷ []
+unfolding put
+laid = refl
+
+-- The first no decides, and the first bad line.
+second-question : firstNo ((1, true) ∷ (15, false) ∷ (16, false) ∷ []) 0 (accepted 7) ≡ refused 15 0
+second-question = refl
+
+-- A question that the empty line gets a no to.
+hasBytes : ℕ → List ℕ → List Question
+hasBytes i [] = (9, false) ∷ []
+hasBytes i (c ∷ l) = (9, true) ∷ []
+
+third-line : firstBad hasBytes 0 (lines (65 ∷ 10 ∷ 66 ∷ 10 ∷ 10 ∷ 10 ∷ [])) (accepted 0) ≡ refused 9 3
+unfolding firstBad lines hasBytes
+third-line = refl

@@ -3,7 +3,7 @@ use crate::FileRead;
 use text::digits::all_digits;
 use text::lines::ends_line;
 ghost use mathlib.Core.Path.{_≡_};
-ghost use Prim.Native.Nat.{_+_, _≤_, _<_};
+ghost use Prim.Native.Nat.{_≤_};
 ghost use lib.ListN.{length, drop};
 ghost use Rattle.text.specs.Numerals.{DigitValues};
 ghost use Rattle.text.specs.Lines.{firstLine};

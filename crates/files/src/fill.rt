@@ -1,9 +1,15 @@
 // Good memory files put into memory: a word for each line, zero for each that is missing.
+use crate::sizes::FRAME_DIGITS;
+use crate::sizes::FRAME_LINE;
+use crate::sizes::IMAGE_DIGITS;
+use crate::sizes::IMAGE_LINE;
+use crate::sizes::WORD_DIGITS;
+use crate::sizes::WORD_LINE;
 use text::digits::value_of;
 ghost use mathlib.Core.Path.{_≡_};
 ghost use mathlib.Core.Bool.{true};
 ghost use mathlib.Core.List.{_++_};
-ghost use Prim.Native.Nat.{_-_, _^_, _≤_, _<_};
+ghost use Prim.Native.Nat.{_-_, _≤_, _<_};
 ghost use lib.ListN.{length, take, drop, replicate};
 ghost use Rattle.text.specs.Numerals.{DigitValues, value};
 ghost use Rattle.text.specs.Lines.{firstLine, lines};
@@ -25,8 +31,8 @@ pub fn fill_image(text: &[u8], image: &mut [u64], values: &[u8; 256])
     let mut at = 0;
     let mut i = 0;
     while at < text.len() {
-        image[i] = word(text, at, 12, values);
-        at += 13;
+        image[i] = word(text, at, IMAGE_DIGITS, values);
+        at += IMAGE_LINE;
         i += 1;
     }
     clear_image(image, i);
@@ -50,8 +56,8 @@ pub fn fill_words(text: &[u8], memory: &mut [u32], values: &[u8; 256])
     let mut at = 0;
     let mut i = 0;
     while at < text.len() {
-        memory[i] = word(text, at, 8, values) as u32;
-        at += 9;
+        memory[i] = word(text, at, WORD_DIGITS, values) as u32;
+        at += WORD_LINE;
         i += 1;
     }
     clear_words(memory, i);
@@ -75,8 +81,8 @@ pub fn fill_frame(text: &[u8], frame: &mut [u8], values: &[u8; 256])
     let mut at = 0;
     let mut i = 0;
     while at < text.len() {
-        frame[i] = word(text, at, 2, values) as u8;
-        at += 3;
+        frame[i] = word(text, at, FRAME_DIGITS, values) as u8;
+        at += FRAME_LINE;
         i += 1;
     }
     clear_frame(frame, i);

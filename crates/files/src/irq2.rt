@@ -1,12 +1,12 @@
 // The reader of the irq2 file.
 use crate::CyclesRead;
+use crate::sizes::CYCLE_LIMIT;
 use text::Numeral;
 use text::digits::digit_values;
 use text::digits::read_digits;
 use text::digits::value_of;
 use text::lines::line_end;
 ghost use mathlib.Core.Path.{_≡_};
-ghost use Prim.Native.Nat.{_≤_, _<_};
 ghost use lib.ListN.{length};
 ghost use Rattle.text.specs.Numerals.{DigitValues};
 ghost use Rattle.text.specs.Place.{put};
@@ -70,7 +70,7 @@ fn line_cycle(line: &[u8], values: &[u8; 256]) -> Numeral
     let Numeral::Value(cycle) = read_digits(line, 10, values) else {
         return Numeral::NotDigits;
     };
-    if cycle < 0xFF_FFFF_FFFF {
+    if cycle < CYCLE_LIMIT {
         return Numeral::Value(cycle);
     }
     Numeral::NotDigits

@@ -1,4 +1,10 @@
 // Words laid as lines into a text that has room for them.
+use crate::sizes::FRAME_DIGITS;
+use crate::sizes::FRAME_LINE;
+use crate::sizes::IMAGE_DIGITS;
+use crate::sizes::IMAGE_LINE;
+use crate::sizes::WORD_DIGITS;
+use crate::sizes::WORD_LINE;
 use text::digits::put_hex;
 use text::lines::LF as END;
 ghost use mathlib.Core.Path.{_≡_};
@@ -28,8 +34,8 @@ pub fn lay_image(image: &[u64], out: &mut [u8], at: usize, pairs: &[u16; 256]) -
     let mut p = at;
     let mut i = 0;
     while i < image.len() {
-        lay_line(out, p, 12, image[i], pairs);
-        p += 13;
+        lay_line(out, p, IMAGE_DIGITS, image[i], pairs);
+        p += IMAGE_LINE;
         i += 1;
     }
     p
@@ -43,8 +49,8 @@ pub fn lay_words(words: &[u32], out: &mut [u8], at: usize, pairs: &[u16; 256]) -
     let mut p = at;
     let mut i = 0;
     while i < words.len() {
-        lay_line(out, p, 8, words[i] as u64, pairs);
-        p += 9;
+        lay_line(out, p, WORD_DIGITS, words[i] as u64, pairs);
+        p += WORD_LINE;
         i += 1;
     }
     p
@@ -58,8 +64,8 @@ pub fn lay_frame(frame: &[u8], out: &mut [u8], at: usize, pairs: &[u16; 256]) ->
     let mut p = at;
     let mut i = 0;
     while i < frame.len() {
-        lay_line(out, p, 2, frame[i] as u64, pairs);
-        p += 3;
+        lay_line(out, p, FRAME_DIGITS, frame[i] as u64, pairs);
+        p += FRAME_LINE;
         i += 1;
     }
     p

@@ -4,9 +4,14 @@ use crate::check::check_words;
 use crate::fill::fill_frame;
 use crate::fill::fill_image;
 use crate::fill::fill_words;
+use crate::sizes::DATA_WORDS;
+use crate::sizes::FRAME_BYTES;
+use crate::sizes::FRAME_DIGITS;
+use crate::sizes::IMAGE_DIGITS;
+use crate::sizes::IMAGE_WORDS;
+use crate::sizes::WORD_DIGITS;
 use crate::sizes::is_part;
 use text::digits::digit_values;
-ghost use mathlib.Core.Path.{_≡_};
 ghost use mathlib.Core.Bool.{true};
 ghost use lib.ListN.{length};
 ghost use Rattle.files.specs.Sizes.{isImage, isData, isFrame, isPart, imageDigits, wordDigits, frameDigits};
@@ -16,11 +21,11 @@ ghost use Rattle.files.specs.Promises.{MemoryRead};
 pub fn read_image(text: &[u8], image: &mut [u64]) -> FileRead
     ensures { λ r. ⌜ MemoryRead imageDigits (isImage (length (now (image .entry)))) (now (text .entry)) (now (image .entry)) r (now (image .exit)) ⌝ }
 {
-    if image.len() != 4096 {
+    if image.len() != IMAGE_WORDS {
         return FileRead::WrongLength;
     }
     let values = digit_values();
-    match check_words(text, 12, image.len(), &values) {
+    match check_words(text, IMAGE_DIGITS, image.len(), &values) {
         FileRead::Filled => {
             fill_image(text, image, &values);
             FileRead::Filled
@@ -35,7 +40,7 @@ pub fn read_image(text: &[u8], image: &mut [u64]) -> FileRead
 pub fn read_data(text: &[u8], memory: &mut [u32]) -> FileRead
     ensures { λ r. ⌜ MemoryRead wordDigits (isData (length (now (memory .entry)))) (now (text .entry)) (now (memory .entry)) r (now (memory .exit)) ⌝ }
 {
-    if memory.len() != 4096 {
+    if memory.len() != DATA_WORDS {
         return FileRead::WrongLength;
     }
     read_words(text, memory)
@@ -56,7 +61,7 @@ fn read_words(text: &[u8], memory: &mut [u32]) -> FileRead
     ensures { λ r. ⌜ MemoryRead wordDigits true (now (text .entry)) (now (memory .entry)) r (now (memory .exit)) ⌝ }
 {
     let values = digit_values();
-    match check_words(text, 8, memory.len(), &values) {
+    match check_words(text, WORD_DIGITS, memory.len(), &values) {
         FileRead::Filled => {
             fill_words(text, memory, &values);
             FileRead::Filled
@@ -71,11 +76,11 @@ fn read_words(text: &[u8], memory: &mut [u32]) -> FileRead
 pub fn read_frame(text: &[u8], frame: &mut [u8]) -> FileRead
     ensures { λ r. ⌜ MemoryRead frameDigits (isFrame (length (now (frame .entry)))) (now (text .entry)) (now (frame .entry)) r (now (frame .exit)) ⌝ }
 {
-    if frame.len() != 65536 {
+    if frame.len() != FRAME_BYTES {
         return FileRead::WrongLength;
     }
     let values = digit_values();
-    match check_words(text, 2, frame.len(), &values) {
+    match check_words(text, FRAME_DIGITS, frame.len(), &values) {
         FileRead::Filled => {
             fill_frame(text, frame, &values);
             FileRead::Filled

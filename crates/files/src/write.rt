@@ -3,6 +3,13 @@ use crate::Written;
 use crate::lay::lay_frame;
 use crate::lay::lay_image;
 use crate::lay::lay_words;
+use crate::sizes::DATA_TEXT;
+use crate::sizes::DATA_WORDS;
+use crate::sizes::FRAME_BYTES;
+use crate::sizes::FRAME_TEXT;
+use crate::sizes::IMAGE_TEXT;
+use crate::sizes::IMAGE_WORDS;
+use crate::sizes::SECTOR_TEXT;
 use crate::sizes::is_part_of;
 use text::digits::hex_pairs;
 ghost use mathlib.Core.Path.{_≡_};
@@ -18,10 +25,10 @@ ghost use Rattle.files.specs.Promises.{TextWritten};
 pub fn write_image(image: &[u64], text: &mut [u8]) -> Written
     ensures { λ r. ⌜ TextWritten (isImage (length (now (image .entry)))) (fileText imageDigits (now (image .entry))) (now (text .entry)) r (now (text .exit)) ⌝ }
 {
-    if image.len() != 4096 {
+    if image.len() != IMAGE_WORDS {
         return Written::WrongLength;
     }
-    if text.len() < 53248 {
+    if text.len() < IMAGE_TEXT {
         return Written::NoRoom;
     }
     let pairs = hex_pairs();
@@ -32,10 +39,10 @@ pub fn write_image(image: &[u64], text: &mut [u8]) -> Written
 pub fn write_data(memory: &[u32], text: &mut [u8]) -> Written
     ensures { λ r. ⌜ TextWritten (isData (length (now (memory .entry)))) (fileText wordDigits (now (memory .entry))) (now (text .entry)) r (now (text .exit)) ⌝ }
 {
-    if memory.len() != 4096 {
+    if memory.len() != DATA_WORDS {
         return Written::WrongLength;
     }
-    if text.len() < 36864 {
+    if text.len() < DATA_TEXT {
         return Written::NoRoom;
     }
     let pairs = hex_pairs();
@@ -46,10 +53,10 @@ pub fn write_data(memory: &[u32], text: &mut [u8]) -> Written
 pub fn write_frame(frame: &[u8], text: &mut [u8]) -> Written
     ensures { λ r. ⌜ TextWritten (isFrame (length (now (frame .entry)))) (fileText frameDigits (now (frame .entry))) (now (text .entry)) r (now (text .exit)) ⌝ }
 {
-    if frame.len() != 65536 {
+    if frame.len() != FRAME_BYTES {
         return Written::WrongLength;
     }
-    if text.len() < 196608 {
+    if text.len() < FRAME_TEXT {
         return Written::NoRoom;
     }
     let pairs = hex_pairs();
@@ -63,7 +70,7 @@ pub fn write_disk(disk: &[u32], first: usize, sectors: usize, text: &mut [u8]) -
     if !is_part_of(disk.len(), first, sectors) {
         return Written::WrongLength;
     }
-    if text.len() < 1152 * sectors {
+    if text.len() < SECTOR_TEXT * sectors {
         return Written::NoRoom;
     }
     let pairs = hex_pairs();

@@ -7,12 +7,17 @@ ghost use lib.ListN.{length, getD};
 ghost use Rattle.text.specs.Numerals.{digit as digitOf, digitValue, digits, allDigits, value, numeral, DigitValues, HexPairs};
 ghost use Rattle.text.specs.Place.{put};
 
+// What a letter's byte has more than the digit is worth, for capitals and for small letters.
+const CAPITAL: u8 = b'A' - 10;
+
+const SMALL: u8 = b'a' - 10;
+
 // The byte of a digit from 0 to 15, in capitals.
 pub fn digit(v: u8) -> u8
     requires { ⌜ v < 16 ⌝ }
     ensures { λ r. ⌜ r ≡ digitOf v ⌝ }
 {
-    if v < 10 { 48 + v } else { 55 + v }
+    if v < 10 { b'0' + v } else { CAPITAL + v }
 }
 
 // What a byte is worth as a digit, letters of either case; 16 where it is none.
@@ -20,9 +25,9 @@ pub fn digit_value(c: u8) -> u8
     ensures { λ r. ⌜ r ≡ digitValue c ⌝ }
 {
     match c {
-        48..=57 => c - 48,
-        65..=70 => c - 55,
-        97..=102 => c - 87,
+        b'0'..=b'9' => c - b'0',
+        b'A'..=b'F' => c - CAPITAL,
+        b'a'..=b'f' => c - SMALL,
         _ => 16,
     }
 }

@@ -5,7 +5,7 @@ ghost use lib.ListN.{length, drop};
 ghost use Rattle.text.specs.Lines.{firstLine, endsLine};
 
 // The byte that ends a line.
-pub const LF: u8 = 10;
+pub const LF: u8 = b'\n';
 
 // The place where the line that begins at `from` ends: that of its LF, or the end of the text.
 pub fn line_end(s: &[u8], from: usize) -> usize

@@ -9,33 +9,24 @@ use native.Mathlib.Numerals.{add-one}
 use lib.Arith.{mod-mul, digits-lt, digits-div, digits-mod}
 use lib.ListN.{length, length-append, getD, drop, drop-of-length-le}
 use lib.Seq.{drop-cons}
-use lib.Dec.{ltb}
-use borrow.Author.Tests.{lt-ltb, le-ltb, le-leb, lt-leb, ltb-true, ltb-false}
+use lib.Dec.{ltb, eqb}
+use borrow.Author.Tests.{lt-ltb, le-ltb, ltb-true, eqb-true}
 use Rattle.text.specs.declared.Numeral.the-variants.{Value, NotDigits}
 use Rattle.text.specs.Numerals.{digit, digitValue, digits, allDigits, valueAfter, value}
-use Rattle.text.proofs.Truth.{and-left, and-right}
+use Rattle.text.proofs.Truth.{and-left, and-right, below}
 
 -- ---- one digit
 
 -- What is written as a digit is read as that digit.
 pub digit-back : (v : ℕ) → v < 16 → digitValue (digit v) ≡ v
-digit-back v h = go (ltb v 10) refl
-  where
-    go : (t : Bool) → ltb v 10 ≡ t → digitValue (cond t (48 + v) (55 + v)) ≡ v
-    go true e =
-        let low : v < 10 = ltb-true v 10 e in
-        rw (le-leb 48 (48 + v) (omega arith), le-leb (48 + v) 57 (omega arith)) (omega arith)
-    go false e =
-        let high : 10 ≤ v = ltb-false v 10 e in
-        rw (le-leb 48 (55 + v) (omega arith), lt-leb (55 + v) 57 (omega arith), le-leb 65 (55 + v) (omega arith), le-leb (55 + v) 70 (omega arith))
-        (omega arith)
+digit-back v h = eqb-true _ _ (below (λ v. eqb (digitValue (digit v)) v) 16 refl v h)
 
 pub digit-lt : (v : ℕ) → v < 16 → digit v < 128
-digit-lt v h = go (ltb v 10)
-  where
-    go : (t : Bool) → cond t (48 + v) (55 + v) < 128
-    go true = omega arith
-    go false = omega arith
+digit-lt v h = ltb-true _ _ (below (λ v. ltb (digit v) 128) 16 refl v h)
+
+-- Figures stand together, and so do capitals.
+pub digit-is : (v : ℕ) → v < 16 → cond (ltb v 10) (48 + v) (55 + v) ≡ digit v
+digit-is v h = eqb-true _ _ (below (λ v. eqb (cond (ltb v 10) (48 + v) (55 + v)) (digit v)) 16 refl v h)
 
 -- ---- the digits that are written
 

@@ -1,10 +1,12 @@
 -- Laws of tests. Assumes nothing.
-use Prim.Native.Nat.{ℕ, _+_, _-_, _≤_}
+use Prim.Native.Nat.{ℕ, zero, suc, _+_, _-_, _≤_, _<_}
 use mathlib.Core.Path.{_≡_, refl}
 use mathlib.Core.Bool.{Bool, true, false, _&&_, false≢true}
 use native.Mathlib.Omega.{arith}
-use lib.Dec.{leb}
-use borrow.Author.Tests.{le-leb, lt-leb, leb-true, leb-false}
+use native.Mathlib.Nat.{not-suc-le-zero, le-of-suc-le-suc}
+use lib.Arith.{lt-of-le-ne}
+use lib.Dec.{leb, eqb}
+use borrow.Author.Tests.{le-leb, lt-leb, leb-true, leb-false, eqb-true, eqb-false}
 
 pub and-left : (a b : Bool) → (a && b) ≡ true → a ≡ true
 and-left true b e = refl
@@ -21,3 +23,17 @@ leb-sub a p n h = go (leb (p + a) n) refl
     go : (t : Bool) → leb (p + a) n ≡ t → leb a (n - p) ≡ leb (p + a) n
     go true e = let below = leb-true (p + a) n e in rw (e, le-leb a (n - p) (omega arith))
     go false e = let past = leb-false (p + a) n e in rw (e, lt-leb a (n - p) (omega arith))
+
+-- ---- a test computed at each number below n
+
+abbrev pub allBelow : (ℕ → Bool) → ℕ → Bool
+allBelow f zero = true
+allBelow f (suc n) = f n && allBelow f n
+
+pub below : (f : ℕ → Bool) (n : ℕ) → allBelow f n ≡ true → (k : ℕ) → k < n → f k ≡ true
+below f zero e k h = absurd (not-suc-le-zero h)
+below f (suc n) e k h = go (eqb k n) refl (below f n (and-right (f n) (allBelow f n) e) k)
+  where
+    go : (t : Bool) → eqb k n ≡ t → (k < n → f k ≡ true) → f k ≡ true
+    go true same ih = rw (eqb-true k n same) (and-left (f n) (allBelow f n) e)
+    go false other ih = ih (lt-of-le-ne (le-of-suc-le-suc h) (eqb-false k n other))

@@ -1,50 +1,51 @@
--- The definitions computed on small texts. A text is written as its bytes: 48 is `0`, 65 `A`, 97 `a`, 10 LF.
+-- The definitions computed on small texts.
+use Prim.Native.Nat.{ℕ}
 use mathlib.Core.Path.{_≡_, refl}
 use mathlib.Core.Bool.{true, false}
 use mathlib.Core.List.{List, [], _∷_}
-use Prim.Native.Nat.{ℕ}
-use Rattle.text.specs.Questions.{Told, Question, accepted, refused, firstNo, firstBad}
+use Rattle.text.specs.Bytes.{bytes}
+use Rattle.text.specs.Questions.{Question, accepted, refused, firstNo, firstBad}
 use Rattle.text.specs.Numerals.{digits, allDigits, valueAfter, value, digitCount, digitCountUpTo, decimal}
-use Rattle.text.specs.Lines.{lines, firstLine, unlines}
+use Rattle.text.specs.Lines.{lines, unlines}
 use Rattle.text.specs.Place.{put}
 
 -- 0x2BF in four hexadecimal digits is `02BF`, and in two, its low ones, `BF`.
-four-digits : digits 16 4 0x2BF ≡ 48 ∷ 50 ∷ 66 ∷ 70 ∷ []
+four-digits : digits 16 4 0x2BF ≡ bytes "02BF"
 unfolding digits
 four-digits = refl
 
-two-digits : digits 16 2 0x2BF ≡ 66 ∷ 70 ∷ []
+two-digits : digits 16 2 0x2BF ≡ bytes "BF"
 unfolding digits
 two-digits = refl
 
 -- `02bF` are digits and stand for 0x2BF; in base 10 `b` is none.
-either-case : value 16 (48 ∷ 50 ∷ 98 ∷ 70 ∷ []) ≡ 0x2BF
+either-case : value 16 (bytes "02bF") ≡ 0x2BF
 unfolding valueAfter
 either-case = refl
 
-all-hexadecimal : allDigits 16 (48 ∷ 50 ∷ 98 ∷ 70 ∷ []) ≡ true
+all-hexadecimal : allDigits 16 (bytes "02bF") ≡ true
 unfolding allDigits
 all-hexadecimal = refl
 
-not-decimal : allDigits 10 (48 ∷ 50 ∷ 98 ∷ 70 ∷ []) ≡ false
+not-decimal : allDigits 10 (bytes "02bF") ≡ false
 unfolding allDigits
 not-decimal = refl
 
 -- 0 is `0`, 1024 is `1024`.
-zero-decimal : decimal 0 ≡ 48 ∷ []
+zero-decimal : decimal 0 ≡ bytes "0"
 unfolding decimal digits digitCount digitCountUpTo
 zero-decimal = refl
 
-clock-decimal : decimal 1024 ≡ 49 ∷ 48 ∷ 50 ∷ 52 ∷ []
+clock-decimal : decimal 1024 ≡ bytes "1024"
 unfolding decimal digits digitCount digitCountUpTo
 clock-decimal = refl
 
 -- `A` LF and `A` are one line each; the empty text is none, an LF alone an empty one.
-line-with-lf : lines (65 ∷ 10 ∷ []) ≡ (65 ∷ []) ∷ []
+line-with-lf : lines (bytes "A\n") ≡ (bytes "A") ∷ []
 unfolding lines
 line-with-lf = refl
 
-line-without-lf : lines (65 ∷ []) ≡ (65 ∷ []) ∷ []
+line-without-lf : lines (bytes "A") ≡ (bytes "A") ∷ []
 unfolding lines
 line-without-lf = refl
 
@@ -52,11 +53,11 @@ no-line : lines [] ≡ []
 unfolding lines
 no-line = refl
 
-empty-line : lines (10 ∷ []) ≡ [] ∷ []
+empty-line : lines (bytes "\n") ≡ [] ∷ []
 unfolding lines
 empty-line = refl
 
-two-lines : unlines ((65 ∷ []) ∷ [] ∷ []) ≡ 65 ∷ 10 ∷ 10 ∷ []
+two-lines : unlines ((bytes "A") ∷ [] ∷ []) ≡ bytes "A\n\n"
 unfolding unlines
 two-lines = refl
 
@@ -74,6 +75,6 @@ hasBytes : ℕ → List ℕ → List Question
 hasBytes i [] = (9, false) ∷ []
 hasBytes i (c ∷ l) = (9, true) ∷ []
 
-third-line : firstBad hasBytes 0 (lines (65 ∷ 10 ∷ 66 ∷ 10 ∷ 10 ∷ 10 ∷ [])) (accepted 0) ≡ refused 9 3
+third-line : firstBad hasBytes 0 (lines (bytes "A\nB\n\n\n")) (accepted 0) ≡ refused 9 3
 unfolding firstBad lines hasBytes
 third-line = refl

@@ -1,25 +1,31 @@
 -- Numerals in a base from 2 to 16, over the number of their digits.
 use Prim.Native.Nat.{ℕ, zero, suc, _+_, _-_, _*_, _/_, _%_, _<_}
+use Prim.Native.Char.{Char, code}
 use mathlib.Core.Path.{_≡_}
 use mathlib.Core.Bool.{Bool, true, cond, _&&_}
 use mathlib.Core.List.{List, [], _∷_, _++_}
 use lib.Dec.{ltb, leb}
 use lib.ListN.{getD}
+use Rattle.text.specs.Bytes.{bytes}
 use Rattle.text.specs.declared.Numeral.{Numeral}
 use Rattle.text.specs.declared.Numeral.the-variants.{Value, NotDigits}
 
 -- ---- one digit
 
--- The byte of a digit from 0 to 15: `0` to `9`, then capitals `A` to `F`.
+-- The byte of a digit from 0 to 15, in capitals.
 abbrev pub digit : ℕ → ℕ
-digit v = cond (ltb v 10) (48 + v) (55 + v)
+digit v = getD (bytes "0123456789ABCDEF") v 0
+
+-- The byte c stands between two characters.
+abbrev pub isBetween : Char → Char → ℕ → Bool
+isBetween first last c = leb (code first) c && leb c (code last)
 
 -- What a byte is worth as a digit, letters of either case; 16 where it is no digit.
 abbrev pub digitValue : ℕ → ℕ
 digitValue c =
-    cond (leb 48 c && leb c 57) (c - 48)
-    (cond (leb 65 c && leb c 70) (c - 55)
-    (cond (leb 97 c && leb c 102) (c - 87)
+    cond (isBetween "0" "9" c) (c - code "0")
+    (cond (isBetween "A" "F" c) (10 + (c - code "A"))
+    (cond (isBetween "a" "f" c) (10 + (c - code "a"))
     16))
 
 -- ---- many digits

@@ -17,12 +17,12 @@ returns c = let x = c .before .before .args .c in rw (le-leb 48 x (omega arith),
 returns-2 : tie.Need-returns-2
 returns-2 c =
     let x = c .before .before .before .before .args .c in
-    rw (le-leb 48 x (omega arith), lt-leb x 57 (omega arith), le-leb 65 x (omega arith), le-leb x 70 (omega arith))
+    rw (le-leb 48 x (omega arith), lt-leb x 57 (omega arith), le-leb 65 x (omega arith), le-leb x 70 (omega arith)) (omega arith)
 
 returns-3 : tie.Need-returns-3
 returns-3 c =
     let x = c .before .before .before .before .before .before .args .c in
-    rw (le-leb 48 x (omega arith), lt-leb x 57 (omega arith), le-leb 65 x (omega arith), lt-leb x 70 (omega arith), le-leb 97 x (omega arith), le-leb x 102 (omega arith))
+    rw (le-leb 48 x (omega arith), lt-leb x 57 (omega arith), le-leb 65 x (omega arith), lt-leb x 70 (omega arith), le-leb 97 x (omega arith), le-leb x 102 (omega arith)) (omega arith)
 
 returns-4 : tie.Need-returns-4
 returns-4 c = let x = c .before .args .c in rw (lt-leb 48 x (omega arith), lt-leb 65 x (omega arith), lt-leb 97 x (omega arith))

@@ -12,7 +12,7 @@ use Rattle.text.specs.Place.{put}
 use Rattle.files.specs.declared.FileRead.{FileRead}
 use Rattle.files.specs.declared.CyclesRead.{CyclesRead}
 use Rattle.files.specs.declared.Written.{Written}
-use Rattle.files.specs.MemoryFile.{linesTold, readTold, fileWords}
+use Rattle.files.specs.MemoryFile.{linesTold, readTold, writeTold, fileWords}
 use Rattle.files.specs.Irq2File.{irq2Told, fileCycles}
 use Rattle.files.specs.Answers.{fileReadTold, cyclesReadTold}
 use Rattle.files.specs.Promises.{MemoryRead, Irq2Read, TextWritten}
@@ -21,46 +21,50 @@ use Rattle.files.specs.declared.Written.the-variants as Written
 
 -- ---- writers
 
-module _ (rightLength : Bool) (text out : List ℕ) where
-  pub wrong-length : rightLength ≡ false → TextWritten rightLength text out Written.WrongLength out
+module _ (isRight : Bool) (file out : List ℕ) where
+  pub wrong-length : isRight ≡ false → TextWritten isRight file out Written.WrongLength out
+  unfolding writeTold
   wrong-length e = record { answer = rw e; bytes = rw e }
 
-  module _ (right : rightLength ≡ true) where
-    pub no-room : length out < length text → TextWritten rightLength text out Written.NoRoom out
-    no-room h = record { answer = rw (right, lt-leb (length text) (length out) h); bytes = rw (right, lt-leb (length text) (length out) h) }
+  module _ (right : isRight ≡ true) where
+    pub no-room : length out < length file → TextWritten isRight file out Written.NoRoom out
+    unfolding writeTold
+    no-room h = let full = lt-leb (length file) (length out) h in record { answer = rw (right, full); bytes = rw (right, full) }
 
-    pub wrote : (n : ℕ) (after : List ℕ) → length text ≤ length out → n ≡ length text → after ≡ put out 0 text
-        → TextWritten rightLength text out (Written.Bytes n) after
-    wrote n after h e q = record { answer = rw (right, le-leb (length text) (length out) h, e); bytes = rw (right, le-leb (length text) (length out) h) q }
+    pub wrote : (n : ℕ) (after : List ℕ) → length file ≤ length out → n ≡ length file → after ≡ put out 0 file
+        → TextWritten isRight file out (Written.Bytes n) after
+    unfolding writeTold
+    wrote n after h e q = let fits = le-leb (length file) (length out) h in record { answer = rw (right, fits, e); bytes = rw (right, fits) q }
 
 -- ---- readers
 
-module _ (k : ℕ) (rightLength : Bool) (text memory : List ℕ) where
-  pub read-wrong-length : rightLength ≡ false → MemoryRead k rightLength text memory FileRead.WrongLength memory
+module _ (k : ℕ) (isRight : ℕ → Bool) (text memory : List ℕ) where
+  pub read-wrong-length : isRight (length memory) ≡ false → MemoryRead k isRight text memory FileRead.WrongLength memory
   unfolding readTold
   read-wrong-length e = record { answer = rw e; words = rw e }
 
-  module _ (right : rightLength ≡ true) where
+  module _ (right : isRight (length memory) ≡ true) where
     -- The lines are refused.
     pub read-refused : (r : FileRead) → fileReadTold r ≡ linesTold k (length memory) text → eqb (fileReadTold r .number) 0 ≡ false
-        → MemoryRead k rightLength text memory r memory
+        → MemoryRead k isRight text memory r memory
     unfolding readTold
     read-refused r e never = record { answer = rw right e; words = rw (right, ← e, never) }
 
     pub read-filled : (after : List ℕ) → accepted 0 ≡ linesTold k (length memory) text → after ≡ fileWords (length memory) (lines text)
-        → MemoryRead k rightLength text memory FileRead.Filled after
+        → MemoryRead k isRight text memory FileRead.Filled after
     unfolding readTold
     read-filled after e q = record { answer = rw right e; words = rw (right, ← e) q }
 
     -- A reader whose length was asked before.
-    pub read-asked : (r : FileRead) (after : List ℕ) → MemoryRead k true text memory r after → MemoryRead k rightLength text memory r after
-    read-asked r after p = rw right p
+    pub read-asked : (r : FileRead) (after : List ℕ) → MemoryRead k (λ n. true) text memory r after → MemoryRead k isRight text memory r after
+    unfolding readTold
+    read-asked r after p = record { answer = rw right (p .answer); words = rw right (p .words) }
 
 -- ---- the irq2 file
 
 module _ (text cycles : List ℕ) (r : CyclesRead) (e : cyclesReadTold r ≡ irq2Told (length cycles) text) where
   pub irq2-refused : eqb (cyclesReadTold r .number) 0 ≡ false → Irq2Read text cycles r cycles
-  irq2-refused never = record { answer = e; words = rw (← e, never) }
+  irq2-refused never = record { answer = e; places = rw (← e, never) }
 
   pub irq2-read : (after : List ℕ) → eqb (cyclesReadTold r .number) 0 ≡ true → after ≡ put cycles 0 (fileCycles text) → Irq2Read text cycles r after
-  irq2-read after good q = record { answer = e; words = rw (← e, good) q }
+  irq2-read after good q = record { answer = e; places = rw (← e, good) q }

@@ -1,7 +1,7 @@
 -- Laws of the questions asked of an irq2 file's lines. Assumes nothing.
 use Prim.Native.Nat.{ℕ, zero, suc, _+_, _-_, _^_, _≤_, _<_}
 use mathlib.Core.Path.{_≡_, refl, sym, _∙_, ap}
-use mathlib.Core.Bool.{true, false, _&&_}
+use mathlib.Core.Bool.{true, false, cond, _&&_}
 use mathlib.Core.List.{List, [], _∷_, map}
 use native.Mathlib.Nat.{add-zero, le-trans, pow-le-pow-right}
 use native.Mathlib.Omega.{arith}
@@ -11,7 +11,7 @@ use lib.Seq.{drop-drop, getD-drop}
 use lib.Dec.{ltb, leb, leb·zero}
 use borrow.Author.Tests.{lt-ltb, le-ltb, le-leb, lt-leb, ltb-true, leb-true}
 use Rattle.text.specs.Questions.{Told, accepted, refused, firstNo, firstBad}
-use Rattle.text.specs.declared.Numeral.the-variants.{Value, NotDigits}
+use Rattle.text.specs.declared.Numeral.the-variants.{Value, NoNumeral}
 use Rattle.text.specs.Numerals.{allDigits, value, numeral}
 use Rattle.text.specs.Lines.{lines, firstLine}
 use Rattle.text.specs.Place.{put}
@@ -20,7 +20,7 @@ use Rattle.text.proofs.DigitLaws.{number-yes, number-no, number-value}
 use Rattle.text.proofs.QuestionLaws.{first-yes}
 use Rattle.text.proofs.LineLaws.{lines-at}
 use Rattle.files.specs.Sizes.{cycleLimit}
-use Rattle.files.specs.Irq2File.{isCycle, lineCycle, isAbove, cycleQuestions}
+use Rattle.files.specs.Irq2File.{isCycle, lineCycle, risesAfter, rising, irq2Told, fileCycles, isAbove, cycleQuestions}
 
 -- ---- one line
 
@@ -29,7 +29,7 @@ pub few-fit : (n : ℕ) → n ≤ 13 → 10 ^ n ≤ 2 ^ 64
 few-fit n h = le-trans (pow-le-pow-right {n = 10} (omega arith) h) (omega arith)
 
 module _ (l : List ℕ) (some : 1 ≤ length l) (few : length l ≤ 13) where
-  pub cycle-no : numeral 10 l ≡ NotDigits → NotDigits ≡ lineCycle l
+  pub cycle-no : numeral 10 l ≡ NoNumeral → NoNumeral ≡ lineCycle l
   cycle-no e = rw (le-leb 1 (length l) some, le-leb (length l) 13 few, number-no (allDigits 10 l) (value 10 l) e)
 
   module _ (v : ℕ) (e : numeral 10 l ≡ Value v) where
@@ -38,7 +38,7 @@ module _ (l : List ℕ) (some : 1 ≤ length l) (few : length l ≤ 13) where
         let is = number-value (allDigits 10 l) (value 10 l) v e in
         rw (le-leb 1 (length l) some, le-leb (length l) 13 few, number-yes (allDigits 10 l) (value 10 l) v e, ← is, lt-ltb v cycleLimit h)
 
-    pub cycle-over : cycleLimit ≤ v → NotDigits ≡ lineCycle l
+    pub cycle-over : cycleLimit ≤ v → NoNumeral ≡ lineCycle l
     cycle-over h =
         let is = number-value (allDigits 10 l) (value 10 l) v e in
         rw (le-leb 1 (length l) some, le-leb (length l) 13 few, number-yes (allDigits 10 l) (value 10 l) v e, ← is, le-ltb v cycleLimit h)
@@ -149,3 +149,26 @@ module _ (room : ℕ) (text : List ℕ) (at i e n : ℕ) (h : at < length text) 
 pub cycles-end : (text m : List ℕ) (at i : ℕ) → length text ≤ at → m ≡ put m i (map (value 10) (lines (drop at text)))
 unfolding put lines
 cycles-end text m at i h = rw (drop-of-length-le text h)
+
+-- The cycles of a good file rise.
+rises-from : (room : ℕ) (t : Told) (all : List (List ℕ)) (j : ℕ) (ls : List (List ℕ)) → ls ≡ drop (suc j) all
+    → firstBad (cycleQuestions room all) (suc j) ls t .number ≡ 0 → risesAfter (value 10 (getD all j [])) (map (value 10) ls) ≡ true
+unfolding firstBad risesAfter
+rises-from room t all j [] h good = refl
+rises-from room t all j (l ∷ ls) h good =
+    let left = first-yes 10 (suc j + 1) (ltb (suc j) room) _ (omega arith) good in
+    let cycle = first-yes 11 (suc j + 1) (isCycle l) _ (omega arith) (left .1) in
+    let above = first-yes 12 (suc j + 1) (isAbove all (suc j) l) _ (omega arith) (cycle .1) in
+    let rest = rises-from room t all (suc j) ls (next-is all (suc j) l ls h ∙ rw add-one) (rw (← add-one (suc j)) (above .1)) in
+    rw (above .0, ← line-is all (suc j) l ls h) rest
+
+pub irq2-rising : (room : ℕ) (text : List ℕ) → irq2Told room text .number ≡ 0 → rising (fileCycles text) ≡ true
+unfolding irq2Told rising firstBad
+irq2-rising room text good = go (lines text) good
+  where
+    go : (ls : List (List ℕ)) → firstBad (cycleQuestions room ls) 0 ls (accepted (length ls)) .number ≡ 0 → rising (map (value 10) ls) ≡ true
+    go [] good = refl
+    go (l ∷ ls) good =
+        let rest = firstBad (cycleQuestions room (l ∷ ls)) 1 ls (accepted (suc (length ls))) in
+        let left = first-yes 10 1 (ltb 0 room) (cond (isCycle l) rest (refused 11 1)) (omega arith) good in
+        rises-from room (accepted (suc (length ls))) (l ∷ ls) 0 ls refl (first-yes 11 1 (isCycle l) rest (omega arith) (left .1) .1)

@@ -1,29 +1,35 @@
--- The return trip: "a .. written memory reads back the same". For every memory of the right length writing succeeds where there is room, and
--- reading the text into any slice of that length succeeds and gives the memory back. Assumes nothing.
-use Prim.Native.Nat.{ℕ, suc, _+_, _-_, _*_, _%_, _^_, _≤_, _<_, zero-le}
+-- The return trip (demand 2): "a saved record or written memory reads back the same". For every memory of the right length writing succeeds where
+-- there is room, and reading the text into any slice of that length, whatever it held, succeeds and gives the memory back; of an image, the same
+-- image, with zeros above bit 47. In the statements w is what the writer answered and `sent` the slice that it was lent, after the call; r is what
+-- the reader answered and `after` the memory that it was lent, after the call. Assumes nothing.
+use Prim.Native.Nat.{ℕ, zero, suc, _+_, _-_, _*_, _%_, _^_, _≤_, _<_, suc-le-suc}
 use mathlib.Core.Path.{_≡_, refl, sym, _∙_, ap}
-use mathlib.Core.Bool.{Bool, true, false}
-use mathlib.Core.List.{List, [], _∷_, map, append-nil}
-use native.Mathlib.Nat.{mod-eq-of-lt, le-refl, le-trans, lt-of-le-of-lt, min-le-left, zero-add}
+use mathlib.Core.Bool.{Bool, true}
+use mathlib.Core.List.{List, [], _∷_, _++_, map, append-nil}
+use native.Mathlib.Nat.{mod-eq-of-lt, mod-mod, le-refl, le-of-suc-le-suc, not-suc-le-zero, zero-add}
 use native.Mathlib.Omega.{arith}
-use lib.ListN.{length, getD, take, drop, length-map, length-take, List·getD-eq-default}
-use lib.Seq.{take-append-seam, drop-append-seam, getD-take, getD-drop}
+use lib.ListN.{length, take, drop, replicate, length-map, length-take, length-drop, take-append-drop}
+use lib.Seq.{take-append-seam, drop-append-seam, getD-take, getD-drop, sets-eq, take-add}
 use lib.Dec.{ltb}
-use borrow.Author.Tests.{lt-ltb, ltb-true, ltb-false, le-leb, eq-eqb}
+use borrow.Author.Tests.{lt-ltb, le-leb, eq-eqb}
 use Rattle.text.specs.Questions.{Told, accepted, firstBad}
 use Rattle.text.specs.Numerals.{digits, value}
-use Rattle.text.specs.Lines.{lines}
-use Rattle.text.proofs.DigitLaws.{length-digits, all-written, value-written}
+use Rattle.text.specs.Lines.{lines, unlines}
+use Rattle.text.specs.Place.{put}
+use Rattle.text.proofs.QuestionLaws.{first-yes}
+use Rattle.text.proofs.DigitLaws.{length-digits, digits-low, all-written, value-written}
 use Rattle.text.proofs.LineLaws.{lines-unlines, written-no-lf}
 use Rattle.text.proofs.PutLaws.{put-front}
+use Rattle.files.proofs.FillLaws.{word-lt}
 use Rattle.files.proofs.LayLaws.{length-text}
-use Rattle.files.proofs.SizeLaws.{length-part, length-sectors, is-part}
+use Rattle.files.proofs.SizeLaws.{part-words, part-within, length-part, length-sectors, is-part}
 use Rattle.files.specs.declared.FileRead.{FileRead}
 use Rattle.files.specs.declared.Written.{Written}
-use Rattle.files.specs.Sizes.{isImage, isData, isFrame, isPart, isPartOf}
-use Rattle.files.specs.MemoryFile.{isWord, wordQuestions, linesTold, readTold, fileWords, fileText, sectorsOf}
+use Rattle.files.specs.Sizes.{imageWords, dataWords, frameBytes, sectorWords, imageDigits, wordDigits, frameDigits, isImageLength, isDataLength, isFrameLength, isPartLength, isDiskPart}
+use Rattle.files.specs.MemoryFile.{isWord, wordQuestions, linesTold, readTold, writeTold, fileWords, fileText, sectorsOf, Below, low48, SameImage}
 use Rattle.files.specs.Answers.{fileReadTold, writtenTold}
 use Rattle.files.specs.Promises.{MemoryRead, TextWritten}
+use Rattle.files.specs.declared.FileRead.the-variants as FileRead
 
 -- ---- the lines of a written text
 
@@ -48,109 +54,154 @@ written-values k (w ∷ ws) = rw (value-written 16 (omega arith) (omega arith) k
 
 module _ (k : ℕ) (m : List ℕ) where
   -- Writing succeeds where there is room: the text stands at the front, and what stood after it still does.
-  pub writing : (right : Bool) (out : List ℕ) (w : Written) (text : List ℕ) → right ≡ true → length (fileText k m) ≤ length out
-      → TextWritten right (fileText k m) out w text
+  pub writing : (isRight : Bool) (out : List ℕ) (w : Written) (sent : List ℕ) → isRight ≡ true → length (fileText k m) ≤ length out
+      → TextWritten isRight (fileText k m) out w sent
       → (writtenTold w ≡ accepted (length (fileText k m)))
-      × (take (length (fileText k m)) text ≡ fileText k m)
-      × (drop (length (fileText k m)) text ≡ drop (length (fileText k m)) out)
-  writing right out w text yes-right room p =
+      × (take (length (fileText k m)) sent ≡ fileText k m)
+      × (drop (length (fileText k m)) sent ≡ drop (length (fileText k m)) out)
+  unfolding writeTold
+  writing isRight out w sent right room p =
       let fits = le-leb (length (fileText k m)) (length out) room in
-      let front = rw (yes-right, fits) at (p .bytes) ∙ put-front out (fileText k m) room in (
-        rw (yes-right, fits) at (p .answer),
+      let front = rw (right, fits) at (p .bytes) ∙ put-front out (fileText k m) room in (
+        rw (right, fits) at (p .answer),
         rw (front, take-append-seam),
         rw (front, drop-append-seam),
       )
 
-  all-words : (n : ℕ) → n ≡ length m → fileWords n (lines (fileText k m)) ≡ map (λ w. w % 16 ^ k) m
+  all-words : (n : ℕ) → n ≡ length m → fileWords n (lines (fileText k m)) ≡ map (λ word. word % 16 ^ k) m
   unfolding fileWords
   all-words n e =
       let none : n - length (map (digits 16 k) m) ≡ 0 = rw (length-map m (digits 16 k)) (omega arith) in
       rw (text-lines k m, written-values k m, none, append-nil)
 
   -- Reading the text succeeds, whatever the slice held: each word has its k low digits.
-  pub reading : (right : Bool) (d : List ℕ) (r : FileRead) (after : List ℕ) → right ≡ true → length d ≡ length m
-      → MemoryRead k right (fileText k m) d r after
-      → (fileReadTold r ≡ accepted 0) × (after ≡ map (λ w. w % 16 ^ k) m)
+  pub reading : (isRight : ℕ → Bool) (d : List ℕ) (r : FileRead) (after : List ℕ) → isRight (length d) ≡ true → length d ≡ length m
+      → MemoryRead k isRight (fileText k m) d r after
+      → (fileReadTold r ≡ accepted 0) × (after ≡ map (λ word. word % 16 ^ k) m)
   unfolding readTold linesTold
-  reading right d r after yes-right size p =
+  reading isRight d r after right size p =
       let good = ap (λ (ls : List (List ℕ)). firstBad (wordQuestions k (length d)) 0 ls (accepted 0)) (text-lines k m)
       ∙ written-good k (length d) 0 m (accepted 0) (rw (zero-add, size) (le-refl (length m))) in
-      (rw (yes-right, good) at (p .answer), rw (yes-right, good) at (p .words) ∙ all-words (length d) size)
+      (rw (right, good) at (p .answer), rw (right, good) at (p .words) ∙ all-words (length d) size)
 
   -- Both: the text that was written is read.
-  pub return-trip : (right right′ : Bool) (out d : List ℕ) (w : Written) (text : List ℕ) (r : FileRead) (after : List ℕ)
-      → right ≡ true → right′ ≡ true → length (fileText k m) ≤ length out → length d ≡ length m
-      → TextWritten right (fileText k m) out w text
-      → MemoryRead k right′ (take (length (fileText k m)) text) d r after
-      → (writtenTold w ≡ accepted (length (fileText k m))) × (fileReadTold r ≡ accepted 0) × (after ≡ map (λ w. w % 16 ^ k) m)
-  return-trip right right′ out d w text r after e e′ room size p q =
-      let wrote = writing right out w text e room p in
-      let back = reading right′ d r after e′ size (rw (wrote .1) at q) in
+  pub return-trip : (isRight : Bool) (isRight′ : ℕ → Bool) (out d : List ℕ) (w : Written) (sent : List ℕ) (r : FileRead) (after : List ℕ)
+      → isRight ≡ true → isRight′ (length d) ≡ true → length (fileText k m) ≤ length out → length d ≡ length m
+      → TextWritten isRight (fileText k m) out w sent
+      → MemoryRead k isRight′ (take (length (fileText k m)) sent) d r after
+      → (writtenTold w ≡ accepted (length (fileText k m))) × (fileReadTold r ≡ accepted 0) × (after ≡ map (λ word. word % 16 ^ k) m)
+  return-trip isRight isRight′ out d w sent r after right right′ room size p q =
+      let wrote = writing isRight out w sent right room p in
+      let back = reading isRight′ d r after right′ size (rw (wrote .1) at q) in
       (wrote .0, back .0, back .1)
 
--- Words below 16 ^ k come back themselves.
-unfoldable pub Below : ℕ → List ℕ → Type 0
-Below limit m = (i : ℕ) → getD m i 0 < limit
-
-pub same-words : (limit : ℕ) (m : List ℕ) → Below limit m → map (λ w. w % limit) m ≡ m
-unfolding Below
+-- Words below a limit come back themselves.
+same-words : (limit : ℕ) (m : List ℕ) → Below limit m → map (λ word. word % limit) m ≡ m
 same-words limit [] h = refl
-same-words limit (w ∷ ws) h = rw (mod-eq-of-lt (h 0), same-words limit ws (λ i. h (suc i)))
-
--- A part of such a memory is such a one.
-below-part : (limit : ℕ) (m : List ℕ) (at n : ℕ) → Below limit m → Below limit (take n (drop at m))
-unfolding Below
-below-part limit m at n h i = go (ltb i n) refl
-  where
-    go : (t : Bool) → ltb i n ≡ t → getD (take n (drop at m)) i 0 < limit
-    go true e = rw (getD-take n (drop at m) i 0 (ltb-true i n e), getD-drop at m i 0) (h (at + i))
-    go false e = rw (List·getD-eq-default (take n (drop at m)) 0 (le-trans (rw length-take (min-le-left n _)) (ltb-false i n e))) (lt-of-le-of-lt zero-le (h 0))
+same-words limit (w ∷ ws) h = rw (mod-eq-of-lt (h 0 (omega arith)), same-words limit ws (λ i k. h (suc i) (suc-le-suc k)))
 
 -- ---- the four memories
 
--- The image: its low 48 bits, higher bits 0.
-pub image-returns : (image out d : List ℕ) (w : Written) (text : List ℕ) (r : FileRead) (after : List ℕ)
-    → length image ≡ 4096 → 53248 ≤ length out → length d ≡ 4096
-    → TextWritten (isImage (length image)) (fileText 12 image) out w text
-    → MemoryRead 12 (isImage (length d)) (take 53248 text) d r after
-    → (writtenTold w ≡ accepted 53248) × (fileReadTold r ≡ accepted 0) × (after ≡ map (λ w. w % 2 ^ 48) image)
-image-returns image out d w text r after size room size′ p q =
+pub image-returns : (image out d : List ℕ) (w : Written) (sent : List ℕ) (r : FileRead) (after : List ℕ)
+    → length image ≡ imageWords → 53248 ≤ length out → length d ≡ imageWords
+    → TextWritten (isImageLength (length image)) (fileText imageDigits image) out w sent
+    → MemoryRead imageDigits isImageLength (take 53248 sent) d r after
+    → (writtenTold w ≡ accepted 53248) × (fileReadTold r ≡ accepted 0) × (after ≡ low48 image)
+image-returns image out d w sent r after size room size′ p q =
     let bytes : length (fileText 12 image) ≡ 53248 = rw (length-text, size) in
-    let trip = return-trip 12 image (isImage (length image)) (isImage (length d)) out d w text r after
+    let trip = return-trip 12 image (isImageLength (length image)) isImageLength out d w sent r after
     (eq-eqb (length image) 4096 size) (eq-eqb (length d) 4096 size′) (rw bytes room) (size′ ∙ sym size) p (rw bytes q) in
     (trip .0 ∙ ap accepted bytes, trip .1, trip .2)
 
-pub data-returns : (memory out d : List ℕ) (w : Written) (text : List ℕ) (r : FileRead) (after : List ℕ)
-    → length memory ≡ 4096 → Below (2 ^ 32) memory → 36864 ≤ length out → length d ≡ 4096
-    → TextWritten (isData (length memory)) (fileText 8 memory) out w text
-    → MemoryRead 8 (isData (length d)) (take 36864 text) d r after
+-- The same image comes back; what is written of an image doesn't depend on bits above 47; and every image that is read has zeros there.
+pub same-image-returns : (image : List ℕ) → SameImage (low48 image) image
+same-image-returns [] = refl
+same-image-returns (w ∷ ws) = rw (mod-mod, same-image-returns ws)
+
+pub high-bits-not-written : (image : List ℕ) → fileText imageDigits (low48 image) ≡ fileText imageDigits image
+unfolding fileText unlines
+high-bits-not-written [] = refl
+high-bits-not-written (w ∷ ws) = rw (digits-low 16 (omega arith) 12 w, high-bits-not-written ws)
+
+good-words-below : (k room i : ℕ) (ls : List (List ℕ)) (t : Told) → firstBad (wordQuestions k room) i ls t .number ≡ 0 → Below (16 ^ k) (map (value 16) ls)
+unfolding firstBad
+good-words-below k room i [] t good j h = absurd (not-suc-le-zero h)
+good-words-below k room i (l ∷ ls) t good zero h =
+    let left = first-yes 10 (i + 1) (ltb i room) _ (omega arith) good in
+    word-lt k l (first-yes 9 (i + 1) (isWord k l) _ (omega arith) (left .1) .0)
+good-words-below k room i (l ∷ ls) t good (suc j) h =
+    let left = first-yes 10 (i + 1) (ltb i room) _ (omega arith) good in
+    good-words-below k room (i + 1) ls t (first-yes 9 (i + 1) (isWord k l) _ (omega arith) (left .1) .1) j (le-of-suc-le-suc h)
+
+below-append : (limit : ℕ) (a b : List ℕ) → Below limit a → Below limit b → Below limit (a ++ b)
+below-append limit [] b ha hb i h = hb i h
+below-append limit (x ∷ a) b ha hb zero h = ha 0 (omega arith)
+below-append limit (x ∷ a) b ha hb (suc i) h = below-append limit a b (λ j k. ha (suc j) (suc-le-suc k)) hb i (le-of-suc-le-suc h)
+
+below-zeros : (limit : ℕ) → 0 < limit → (n : ℕ) → Below limit (replicate n 0)
+below-zeros limit pos zero i h = absurd (not-suc-le-zero h)
+below-zeros limit pos (suc n) zero h = pos
+below-zeros limit pos (suc n) (suc i) h = below-zeros limit pos n i (le-of-suc-le-suc h)
+
+pub high-bits-read-zero : (text image : List ℕ) (after : List ℕ) → MemoryRead imageDigits isImageLength text image FileRead.Filled after → Below (2 ^ 48) after
+unfolding readTold linesTold fileWords
+high-bits-read-zero text image after p =
+    let told = ap (λ (t : Told). t .number) (sym (p .answer)) in
+    rw (rw told at (p .words)) (below-append (2 ^ 48) (map (value 16) (lines text)) (replicate (length image - length (lines text)) 0) (good-lines text told)
+    (below-zeros (2 ^ 48) (omega arith) (length image - length (lines text))))
+  where
+    good-lines : (text : List ℕ) → readTold imageDigits isImageLength (length image) text .number ≡ 0 → Below (2 ^ 48) (map (value 16) (lines text))
+    good-lines text told = good-words-below 12 (length image) 0 (lines text) (accepted 0) (first-yes 1 0 (isImageLength (length image)) _ (omega arith) told .1)
+
+pub data-returns : (memory out d : List ℕ) (w : Written) (sent : List ℕ) (r : FileRead) (after : List ℕ)
+    → length memory ≡ dataWords → Below (2 ^ 32) memory → 36864 ≤ length out → length d ≡ dataWords
+    → TextWritten (isDataLength (length memory)) (fileText wordDigits memory) out w sent
+    → MemoryRead wordDigits isDataLength (take 36864 sent) d r after
     → (writtenTold w ≡ accepted 36864) × (fileReadTold r ≡ accepted 0) × (after ≡ memory)
-data-returns memory out d w text r after size below room size′ p q =
+data-returns memory out d w sent r after size below room size′ p q =
     let bytes : length (fileText 8 memory) ≡ 36864 = rw (length-text, size) in
-    let trip = return-trip 8 memory (isData (length memory)) (isData (length d)) out d w text r after
+    let trip = return-trip 8 memory (isDataLength (length memory)) isDataLength out d w sent r after
     (eq-eqb (length memory) 4096 size) (eq-eqb (length d) 4096 size′) (rw bytes room) (size′ ∙ sym size) p (rw bytes q) in
     (trip .0 ∙ ap accepted bytes, trip .1, trip .2 ∙ same-words (2 ^ 32) memory below)
 
-pub frame-returns : (frame out d : List ℕ) (w : Written) (text : List ℕ) (r : FileRead) (after : List ℕ)
-    → length frame ≡ 65536 → Below (2 ^ 8) frame → 196608 ≤ length out → length d ≡ 65536
-    → TextWritten (isFrame (length frame)) (fileText 2 frame) out w text
-    → MemoryRead 2 (isFrame (length d)) (take 196608 text) d r after
+pub frame-returns : (frame out d : List ℕ) (w : Written) (sent : List ℕ) (r : FileRead) (after : List ℕ)
+    → length frame ≡ frameBytes → Below (2 ^ 8) frame → 196608 ≤ length out → length d ≡ frameBytes
+    → TextWritten (isFrameLength (length frame)) (fileText frameDigits frame) out w sent
+    → MemoryRead frameDigits isFrameLength (take 196608 sent) d r after
     → (writtenTold w ≡ accepted 196608) × (fileReadTold r ≡ accepted 0) × (after ≡ frame)
-frame-returns frame out d w text r after size below room size′ p q =
+frame-returns frame out d w sent r after size below room size′ p q =
     let bytes : length (fileText 2 frame) ≡ 196608 = rw (length-text, size) in
-    let trip = return-trip 2 frame (isFrame (length frame)) (isFrame (length d)) out d w text r after
+    let trip = return-trip 2 frame (isFrameLength (length frame)) isFrameLength out d w sent r after
     (eq-eqb (length frame) 65536 size) (eq-eqb (length d) 65536 size′) (rw bytes room) (size′ ∙ sym size) p (rw bytes q) in
     (trip .0 ∙ ap accepted bytes, trip .1, trip .2 ∙ same-words (2 ^ 8) frame below)
 
+-- A part of such a memory is such a one.
+below-part : (limit : ℕ) (m : List ℕ) (at n : ℕ) → Below limit m → Below limit (take n (drop at m))
+below-part limit m at n h i k =
+    let size = length-take n (drop at m) in
+    let left = length-drop at m in
+    rw (getD-take n (drop at m) i 0 (omega arith), getD-drop at m i 0) (h (at + i) (omega arith))
+
 -- A part of the disk, read into a part of as many sectors.
-pub disk-returns : (disk out d : List ℕ) (first sectors : ℕ) (w : Written) (text : List ℕ) (r : FileRead) (after : List ℕ)
-    → isPartOf (length disk) first sectors ≡ true → Below (2 ^ 32) disk → 1152 * sectors ≤ length out → length d ≡ 128 * sectors
-    → TextWritten (isPartOf (length disk) first sectors) (fileText 8 (sectorsOf disk first sectors)) out w text
-    → MemoryRead 8 (isPart (length d)) (take (1152 * sectors) text) d r after
+pub disk-returns : (disk out d : List ℕ) (first sectors : ℕ) (w : Written) (sent : List ℕ) (r : FileRead) (after : List ℕ)
+    → isDiskPart (length disk) first sectors ≡ true → Below (2 ^ 32) disk → 1152 * sectors ≤ length out → length d ≡ sectorWords * sectors
+    → TextWritten (isDiskPart (length disk) first sectors) (fileText wordDigits (sectorsOf disk first sectors)) out w sent
+    → MemoryRead wordDigits isPartLength (take (1152 * sectors) sent) d r after
     → (writtenTold w ≡ accepted (1152 * sectors)) × (fileReadTold r ≡ accepted 0) × (after ≡ sectorsOf disk first sectors)
-disk-returns disk out d first sectors w text r after right below room size p q =
+disk-returns disk out d first sectors w sent r after right below room size p q =
     let part = sectorsOf disk first sectors in
     let bytes = length-part disk first sectors right in
-    let trip = return-trip 8 part (isPartOf (length disk) first sectors) (isPart (length d)) out d w text r after
+    let trip = return-trip 8 part (isDiskPart (length disk) first sectors) isPartLength out d w sent r after
     right (is-part disk first sectors right (length d) size) (rw bytes room) (size ∙ sym (length-sectors disk first sectors right)) p (rw bytes q) in
     (trip .0 ∙ ap accepted bytes, trip .1, trip .2 ∙ same-words (2 ^ 32) part (below-part (2 ^ 32) disk (128 * first) (128 * sectors) below))
+
+-- Put in its place, the part leaves the disk the same.
+pub part-in-place : (disk : List ℕ) (first sectors : ℕ) → isDiskPart (length disk) first sectors ≡ true
+    → put disk (sectorWords * first) (sectorsOf disk first sectors) ≡ disk
+unfolding put
+part-in-place disk first sectors right =
+    let within = part-within (length disk) first sectors right in
+    let words = part-words (length disk) first sectors right in
+    let size = length-sectors disk first sectors right in
+    sets-eq (sectorsOf disk first sectors) disk (128 * first) (rw size (omega arith))
+    ∙ rw (size, ← take-add (128 * first) (128 * sectors) disk, take-append-drop)

@@ -9,11 +9,11 @@ use lib.Seq.{length-take-le}
 use lib.Dec.{eqb, ltb, leb}
 use borrow.Author.Tests.{eqb-true, ltb-true, leb-true, eq-eqb, le-leb}
 use Rattle.text.proofs.Truth.{and-left, and-right}
-use Rattle.files.specs.Sizes.{isPart, isPartOf}
+use Rattle.files.specs.Sizes.{isPartLength, isDiskPart}
 use Rattle.files.specs.MemoryFile.{sectorsOf, fileText}
 use Rattle.files.proofs.LayLaws.{length-text}
 
-module _ (n first sectors : ℕ) (h : isPartOf n first sectors ≡ true) where
+module _ (n first sectors : ℕ) (h : isDiskPart n first sectors ≡ true) where
   size : (eqb n 16384 && ltb 0 sectors) ≡ true
   size = and-left (eqb n 16384 && ltb 0 sectors) (leb (first + sectors) 128) h
 
@@ -26,7 +26,7 @@ module _ (n first sectors : ℕ) (h : isPartOf n first sectors ≡ true) where
   pub part-some : 0 < sectors
   part-some = ltb-true 0 sectors (and-right (eqb n 16384) (ltb 0 sectors) size)
 
-module _ (disk : List ℕ) (first sectors : ℕ) (h : isPartOf (length disk) first sectors ≡ true) where
+module _ (disk : List ℕ) (first sectors : ℕ) (h : isDiskPart (length disk) first sectors ≡ true) where
   -- A part of the disk has 128 words a sector.
   pub length-sectors : length (sectorsOf disk first sectors) ≡ 128 * sectors
   length-sectors =
@@ -39,7 +39,7 @@ module _ (disk : List ℕ) (first sectors : ℕ) (h : isPartOf (length disk) fir
   length-part = rw (length-text, length-sectors) (omega arith)
 
   -- As many words are a part that can be read into.
-  pub is-part : (n : ℕ) → n ≡ 128 * sectors → isPart n ≡ true
+  pub is-part : (n : ℕ) → n ≡ 128 * sectors → isPartLength n ≡ true
   is-part n e =
       let within = part-within (length disk) first sectors h in
       let some = part-some (length disk) first sectors h in

@@ -1,4 +1,5 @@
--- What each answer tells: document 01's number, the place and the count.
+-- What each answer tells: document 01's number, the place and the count. "When an answer is an enum, a definition states this paper's number
+-- and values for each of its cases."
 use Rattle.text.specs.Questions.{Told, accepted, refused}
 use Rattle.files.specs.declared.FileRead.{FileRead}
 use Rattle.files.specs.declared.CyclesRead.{CyclesRead}

@@ -6,21 +6,31 @@ use mathlib.Core.List.{List, [], _∷_, map}
 use lib.Dec.{ltb, leb}
 use lib.ListN.{length, getD}
 use Rattle.text.specs.declared.Numeral.{Numeral}
-use Rattle.text.specs.declared.Numeral.the-variants.{Value, NotDigits}
+use Rattle.text.specs.declared.Numeral.the-variants.{Value, NoNumeral}
 use Rattle.text.specs.Questions.{Question, Told, accepted, firstBad}
 use Rattle.text.specs.Numerals.{allDigits, value}
 use Rattle.text.specs.Lines.{lines}
-use Rattle.files.specs.Sizes.{cycleLimit}
+use Rattle.files.specs.Sizes.{cycleLimit, cycleDigits}
 
 -- The line is a cycle: "decimal, 1 to 13 digits, below 2^40-1".
 abbrev pub isCycle : List ℕ → Bool
-isCycle l = leb 1 (length l) && leb (length l) 13 && allDigits 10 l && ltb (value 10 l) cycleLimit
+isCycle l = leb 1 (length l) && leb (length l) cycleDigits && allDigits 10 l && ltb (value 10 l) cycleLimit
 
--- The cycle that a line is, if it is one.
+-- The cycle that a line is, if it is one (for the code).
 abbrev pub lineCycle : List ℕ → Numeral
-lineCycle l = cond (isCycle l) (Value (value 10 l)) NotDigits
+lineCycle l = cond (isCycle l) (Value (value 10 l)) NoNumeral
 
--- "strictly rising": the cycle on the line l is above that of the line before it; i of all the lines stand before l.
+-- "strictly rising", of a list of cycles: each is above the one before.
+unfoldable pub risesAfter : ℕ → List ℕ → Bool
+risesAfter c [] = true
+risesAfter c (d ∷ ds) = ltb c d && risesAfter d ds
+
+unfoldable pub rising : List ℕ → Bool
+rising [] = true
+rising (c ∷ cs) = risesAfter c cs
+
+-- The same asked of one line: the cycle on the line l is above that of the line before it; i of all the lines stand before l. A good file's
+-- cycles are `rising` (`irq2-rising`).
 abbrev pub isAbove : List (List ℕ) → ℕ → List ℕ → Bool
 isAbove all zero l = true
 isAbove all (suc i) l = ltb (value 10 (getD all i [])) (value 10 l)

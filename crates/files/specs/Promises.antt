@@ -14,17 +14,17 @@ use Rattle.files.specs.MemoryFile.{readTold, writeTold, fileWords}
 use Rattle.files.specs.Irq2File.{irq2Told, fileCycles}
 use Rattle.files.specs.Answers.{fileReadTold, cyclesReadTold, writtenTold}
 
--- A text of k digits a line is read into `memory`, which is `after` then.
-pub record MemoryRead (k : ℕ) (rightLength : Bool) (text memory : List ℕ) (r : FileRead) (after : List ℕ) : Type 0 where
-  pub answer : fileReadTold r ≡ readTold k rightLength (length memory) text
-  pub words : after ≡ unlessRefused (readTold k rightLength (length memory) text) (fileWords (length memory) (lines text)) memory
+-- A text of k digits a line is read into `memory`, whose length `isRight` asks; r is answered, and the memory is `after` then.
+pub record MemoryRead (k : ℕ) (isRight : ℕ → Bool) (text memory : List ℕ) (r : FileRead) (after : List ℕ) : Type 0 where
+  pub answer : fileReadTold r ≡ readTold k isRight (length memory) text
+  pub words : after ≡ unlessRefused (readTold k isRight (length memory) text) (fileWords (length memory) (lines text)) memory
 
--- The irq2 file is read into `cycles`.
+-- The irq2 file is read into the front of `cycles`, which are `after` then.
 pub record Irq2Read (text cycles : List ℕ) (r : CyclesRead) (after : List ℕ) : Type 0 where
   pub answer : cyclesReadTold r ≡ irq2Told (length cycles) text
-  pub words : after ≡ unlessRefused (irq2Told (length cycles) text) (put cycles 0 (fileCycles text)) cycles
+  pub places : after ≡ unlessRefused (irq2Told (length cycles) text) (put cycles 0 (fileCycles text)) cycles
 
--- A text is written into `out`.
-pub record TextWritten (rightLength : Bool) (text out : List ℕ) (r : Written) (after : List ℕ) : Type 0 where
-  pub answer : writtenTold r ≡ writeTold rightLength text (length out)
-  pub bytes : after ≡ unlessRefused (writeTold rightLength text (length out)) (put out 0 text) out
+-- The text `file` of a memory, whose length (and, of the disk, whose part) `isRight` has asked, is written into the front of `out`.
+pub record TextWritten (isRight : Bool) (file out : List ℕ) (r : Written) (after : List ℕ) : Type 0 where
+  pub answer : writtenTold r ≡ writeTold isRight file (length out)
+  pub bytes : after ≡ unlessRefused (writeTold isRight file (length out)) (put out 0 file) out

@@ -1,5 +1,5 @@
 -- The lengths that document 01 names, and question 1.
-use Prim.Native.Nat.{ℕ, _+_, _%_, _^_, _-_}
+use Prim.Native.Nat.{ℕ, _+_, _*_, _%_, _^_, _-_}
 use mathlib.Core.Bool.{Bool, _&&_}
 use lib.Dec.{eqb, leb, ltb}
 
@@ -21,7 +21,7 @@ abbrev pub diskSectors : ℕ
 diskSectors = 128
 
 abbrev pub diskWords : ℕ
-diskWords = 16384
+diskWords = diskSectors * sectorWords
 
 -- "one word a line, 12, 8 or 2 hex digits (instructions, words, frame)"
 abbrev pub imageDigits : ℕ
@@ -33,26 +33,29 @@ wordDigits = 8
 abbrev pub frameDigits : ℕ
 frameDigits = 2
 
--- "age = 2^40-1": the cycle limit. Cycles of the irq2 file lie below it.
+-- "below 2^40-1": the cycle limit, which cycles of the irq2 file lie below. "1 to 13 digits": as many as it has.
 abbrev pub cycleLimit : ℕ
 cycleLimit = 2 ^ 40 - 1
 
--- "are the lent lengths those above? 1"
+abbrev pub cycleDigits : ℕ
+cycleDigits = 13
 
-abbrev pub isImage : ℕ → Bool
-isImage n = eqb n imageWords
+-- "are the lent lengths those above .. ? 1". Several wrong ones are one no.
+abbrev pub isImageLength : ℕ → Bool
+isImageLength n = eqb n imageWords
 
-abbrev pub isData : ℕ → Bool
-isData n = eqb n dataWords
+abbrev pub isDataLength : ℕ → Bool
+isDataLength n = eqb n dataWords
 
-abbrev pub isFrame : ℕ → Bool
-isFrame n = eqb n frameBytes
+abbrev pub isFrameLength : ℕ → Bool
+isFrameLength n = eqb n frameBytes
 
--- "parts that .. hold whole sectors, at least one; its reader fills such a part"
-abbrev pub isPart : ℕ → Bool
-isPart n = eqb (n % sectorWords) 0 && leb sectorWords n && leb n diskWords
+-- "hold whole sectors, at least one; its reader fills such a part": as many words as a part of the disk can have. Where a lent slice starts in
+-- the disk can't be asked of it.
+abbrev pub isPartLength : ℕ → Bool
+isPartLength n = eqb (n % sectorWords) 0 && leb sectorWords n && leb n diskWords
 
--- "The disk is written from parts that start at a sector's first word and hold whole sectors, at least one": the disk is lent whole, with
--- the part's first sector and its number of sectors.
-abbrev pub isPartOf : ℕ → ℕ → ℕ → Bool
-isPartOf n first sectors = eqb n diskWords && ltb 0 sectors && leb (first + sectors) diskSectors
+-- "The disk is written from parts that start at a sector's first word and hold whole sectors, at least one": the disk, n words, is lent whole,
+-- and so many of its sectors are named, from sector `first` on.
+abbrev pub isDiskPart : ℕ → ℕ → ℕ → Bool
+isDiskPart n first sectors = eqb n diskWords && ltb 0 sectors && leb (first + sectors) diskSectors

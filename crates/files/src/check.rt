@@ -10,7 +10,7 @@ ghost use Rattle.text.specs.Lines.{firstLine};
 ghost use Rattle.files.specs.MemoryFile.{isWord, linesTold};
 ghost use Rattle.files.specs.Answers.{fileReadTold};
 
-// Asks each line of the text for k digits, and for a word of the memory, which has `room`.
+// Asks of each line of the text whether a word of the memory, which has `room`, is left for it, and whether it is k digits.
 pub fn check_words(text: &[u8], k: usize, room: usize, values: &[u8; 256]) -> FileRead
     requires { ⌜ DigitValues (now values) ⌝ }
     ensures { λ r. ⌜ fileReadTold r ≡ linesTold k room (now (text .entry)) ⌝ }

@@ -24,6 +24,7 @@ fn word(text: &[u8], at: usize, k: usize, values: &[u8; 256]) -> u64
     value_of(&text[at..at + k], 16, values)
 }
 
+// Sets every word from a good file of 12 digits a line.
 pub fn fill_image(text: &[u8], image: &mut [u64], values: &[u8; 256])
     requires { ⌜ (linesTold imageDigits (length (now image)) (now text) .number ≡ 0) × DigitValues (now values) ⌝ }
     ensures { λ _. ⌜ now (image .exit) ≡ fileWords (length (now (image .entry))) (lines (now (text .entry))) ⌝ }
@@ -38,6 +39,7 @@ pub fn fill_image(text: &[u8], image: &mut [u64], values: &[u8; 256])
     clear_image(image, i);
 }
 
+// Sets every word to zero from a place on.
 fn clear_image(image: &mut [u64], from: usize)
     requires { ⌜ from ≤ length (now image) ⌝ }
     ensures { λ _. ⌜ now (image .exit) ≡ take from (now (image .entry)) ++ replicate (length (now (image .entry)) - from) 0 ⌝ }
@@ -49,6 +51,7 @@ fn clear_image(image: &mut [u64], from: usize)
     }
 }
 
+// Sets every word from a good file of 8 digits a line.
 pub fn fill_words(text: &[u8], memory: &mut [u32], values: &[u8; 256])
     requires { ⌜ (linesTold wordDigits (length (now memory)) (now text) .number ≡ 0) × DigitValues (now values) ⌝ }
     ensures { λ _. ⌜ now (memory .exit) ≡ fileWords (length (now (memory .entry))) (lines (now (text .entry))) ⌝ }
@@ -63,6 +66,7 @@ pub fn fill_words(text: &[u8], memory: &mut [u32], values: &[u8; 256])
     clear_words(memory, i);
 }
 
+// Sets every word to zero from a place on.
 fn clear_words(memory: &mut [u32], from: usize)
     requires { ⌜ from ≤ length (now memory) ⌝ }
     ensures { λ _. ⌜ now (memory .exit) ≡ take from (now (memory .entry)) ++ replicate (length (now (memory .entry)) - from) 0 ⌝ }
@@ -74,6 +78,7 @@ fn clear_words(memory: &mut [u32], from: usize)
     }
 }
 
+// Sets every word from a good file of 2 digits a line.
 pub fn fill_frame(text: &[u8], frame: &mut [u8], values: &[u8; 256])
     requires { ⌜ (linesTold frameDigits (length (now frame)) (now text) .number ≡ 0) × DigitValues (now values) ⌝ }
     ensures { λ _. ⌜ now (frame .exit) ≡ fileWords (length (now (frame .entry))) (lines (now (text .entry))) ⌝ }
@@ -88,6 +93,7 @@ pub fn fill_frame(text: &[u8], frame: &mut [u8], values: &[u8; 256])
     clear_frame(frame, i);
 }
 
+// Sets every word to zero from a place on.
 fn clear_frame(frame: &mut [u8], from: usize)
     requires { ⌜ from ≤ length (now frame) ⌝ }
     ensures { λ _. ⌜ now (frame .exit) ≡ take from (now (frame .entry)) ++ replicate (length (now (frame .entry)) - from) 0 ⌝ }

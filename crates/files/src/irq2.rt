@@ -56,24 +56,24 @@ fn check_cycles(text: &[u8], room: usize, values: &[u8; 256]) -> CyclesRead
     CyclesRead::Cycles(i)
 }
 
-// The cycle that a line is: 1 to 13 decimal digits, below the cycle limit.
+// The cycle that a line is, 1 to 13 decimal digits below the cycle limit; no numeral where it is none.
 fn line_cycle(line: &[u8], values: &[u8; 256]) -> Numeral
     requires { ⌜ DigitValues (now values) ⌝ }
     ensures { λ r. ⌜ r ≡ lineCycle (now (line .entry)) ⌝ }
 {
     if line.len() < 1 {
-        return Numeral::NotDigits;
+        return Numeral::NoNumeral;
     }
     if 13 < line.len() {
-        return Numeral::NotDigits;
+        return Numeral::NoNumeral;
     }
     let Numeral::Value(cycle) = read_digits(line, 10, values) else {
-        return Numeral::NotDigits;
+        return Numeral::NoNumeral;
     };
     if cycle < CYCLE_LIMIT {
         return Numeral::Value(cycle);
     }
-    Numeral::NotDigits
+    Numeral::NoNumeral
 }
 
 // Puts the cycles of a good file at the front of the slice.

@@ -46,7 +46,7 @@ pub enum CyclesRead {
 pub enum Written {
     // So many bytes of text stand at the front of the lent slice.
     Bytes(usize),
-    // The lent memory, or the part of it, has not the length that it should have.
+    // The lent memory has not its length, or the disk has no such part: no sector at all, or one past its end.
     WrongLength,
     // The lent slice is shorter than the text.
     NoRoom,

@@ -13,13 +13,12 @@ use crate::sizes::WORD_DIGITS;
 use crate::sizes::is_part;
 use text::digits::digit_values;
 ghost use mathlib.Core.Bool.{true};
-ghost use lib.ListN.{length};
-ghost use Rattle.files.specs.Sizes.{isImage, isData, isFrame, isPart, imageDigits, wordDigits, frameDigits};
+ghost use Rattle.files.specs.Sizes.{isImageLength, isDataLength, isFrameLength, isPartLength, imageDigits, wordDigits, frameDigits};
 ghost use Rattle.files.specs.Promises.{MemoryRead};
 
-// Reads an instruction file: 12 digits a line, into 4,096 words.
+// Reads an instruction file: 12 digits a line, into 4,096 words, whose bits above 47 are 0 then.
 pub fn read_image(text: &[u8], image: &mut [u64]) -> FileRead
-    ensures { λ r. ⌜ MemoryRead imageDigits (isImage (length (now (image .entry)))) (now (text .entry)) (now (image .entry)) r (now (image .exit)) ⌝ }
+    ensures { λ r. ⌜ MemoryRead imageDigits isImageLength (now (text .entry)) (now (image .entry)) r (now (image .exit)) ⌝ }
 {
     if image.len() != IMAGE_WORDS {
         return FileRead::WrongLength;
@@ -38,7 +37,7 @@ pub fn read_image(text: &[u8], image: &mut [u64]) -> FileRead
 
 // Reads a file of data: 8 digits a line, into 4,096 words.
 pub fn read_data(text: &[u8], memory: &mut [u32]) -> FileRead
-    ensures { λ r. ⌜ MemoryRead wordDigits (isData (length (now (memory .entry)))) (now (text .entry)) (now (memory .entry)) r (now (memory .exit)) ⌝ }
+    ensures { λ r. ⌜ MemoryRead wordDigits isDataLength (now (text .entry)) (now (memory .entry)) r (now (memory .exit)) ⌝ }
 {
     if memory.len() != DATA_WORDS {
         return FileRead::WrongLength;
@@ -48,7 +47,7 @@ pub fn read_data(text: &[u8], memory: &mut [u32]) -> FileRead
 
 // Reads a file of disk words: 8 digits a line, into a part of whole sectors.
 pub fn read_disk(text: &[u8], part: &mut [u32]) -> FileRead
-    ensures { λ r. ⌜ MemoryRead wordDigits (isPart (length (now (part .entry)))) (now (text .entry)) (now (part .entry)) r (now (part .exit)) ⌝ }
+    ensures { λ r. ⌜ MemoryRead wordDigits isPartLength (now (text .entry)) (now (part .entry)) r (now (part .exit)) ⌝ }
 {
     if !is_part(part.len()) {
         return FileRead::WrongLength;
@@ -58,7 +57,7 @@ pub fn read_disk(text: &[u8], part: &mut [u32]) -> FileRead
 
 // Reads words of 8 digits into a memory whose length has been asked.
 fn read_words(text: &[u8], memory: &mut [u32]) -> FileRead
-    ensures { λ r. ⌜ MemoryRead wordDigits true (now (text .entry)) (now (memory .entry)) r (now (memory .exit)) ⌝ }
+    ensures { λ r. ⌜ MemoryRead wordDigits (λ n. true) (now (text .entry)) (now (memory .entry)) r (now (memory .exit)) ⌝ }
 {
     let values = digit_values();
     match check_words(text, WORD_DIGITS, memory.len(), &values) {
@@ -74,7 +73,7 @@ fn read_words(text: &[u8], memory: &mut [u32]) -> FileRead
 
 // Reads a file of the frame: 2 digits a line, into 65,536 bytes.
 pub fn read_frame(text: &[u8], frame: &mut [u8]) -> FileRead
-    ensures { λ r. ⌜ MemoryRead frameDigits (isFrame (length (now (frame .entry)))) (now (text .entry)) (now (frame .entry)) r (now (frame .exit)) ⌝ }
+    ensures { λ r. ⌜ MemoryRead frameDigits isFrameLength (now (text .entry)) (now (frame .entry)) r (now (frame .exit)) ⌝ }
 {
     if frame.len() != FRAME_BYTES {
         return FileRead::WrongLength;

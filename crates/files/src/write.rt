@@ -17,13 +17,13 @@ ghost use Prim.Native.Nat.{_+_, _*_, _≤_};
 ghost use lib.ListN.{length};
 ghost use Rattle.text.specs.Numerals.{HexPairs};
 ghost use Rattle.text.specs.Place.{put};
-ghost use Rattle.files.specs.Sizes.{isImage, isData, isFrame, isPartOf, imageDigits, wordDigits, frameDigits};
+ghost use Rattle.files.specs.Sizes.{isImageLength, isDataLength, isFrameLength, isDiskPart, imageDigits, wordDigits, frameDigits};
 ghost use Rattle.files.specs.MemoryFile.{fileText, sectorsOf};
 ghost use Rattle.files.specs.Promises.{TextWritten};
 
 // Writes the instruction image, 4,096 words, as 12 digits a line: the low 48 bits of each word.
 pub fn write_image(image: &[u64], text: &mut [u8]) -> Written
-    ensures { λ r. ⌜ TextWritten (isImage (length (now (image .entry)))) (fileText imageDigits (now (image .entry))) (now (text .entry)) r (now (text .exit)) ⌝ }
+    ensures { λ r. ⌜ TextWritten (isImageLength (length (now (image .entry)))) (fileText imageDigits (now (image .entry))) (now (text .entry)) r (now (text .exit)) ⌝ }
 {
     if image.len() != IMAGE_WORDS {
         return Written::WrongLength;
@@ -37,7 +37,7 @@ pub fn write_image(image: &[u64], text: &mut [u8]) -> Written
 
 // Writes the data memory, 4,096 words, as 8 digits a line.
 pub fn write_data(memory: &[u32], text: &mut [u8]) -> Written
-    ensures { λ r. ⌜ TextWritten (isData (length (now (memory .entry)))) (fileText wordDigits (now (memory .entry))) (now (text .entry)) r (now (text .exit)) ⌝ }
+    ensures { λ r. ⌜ TextWritten (isDataLength (length (now (memory .entry)))) (fileText wordDigits (now (memory .entry))) (now (text .entry)) r (now (text .exit)) ⌝ }
 {
     if memory.len() != DATA_WORDS {
         return Written::WrongLength;
@@ -51,7 +51,7 @@ pub fn write_data(memory: &[u32], text: &mut [u8]) -> Written
 
 // Writes the frame, 65,536 bytes, as 2 digits a line.
 pub fn write_frame(frame: &[u8], text: &mut [u8]) -> Written
-    ensures { λ r. ⌜ TextWritten (isFrame (length (now (frame .entry)))) (fileText frameDigits (now (frame .entry))) (now (text .entry)) r (now (text .exit)) ⌝ }
+    ensures { λ r. ⌜ TextWritten (isFrameLength (length (now (frame .entry)))) (fileText frameDigits (now (frame .entry))) (now (text .entry)) r (now (text .exit)) ⌝ }
 {
     if frame.len() != FRAME_BYTES {
         return Written::WrongLength;
@@ -63,9 +63,9 @@ pub fn write_frame(frame: &[u8], text: &mut [u8]) -> Written
     Written::Bytes(lay_frame(frame, text, 0, &pairs))
 }
 
-// Writes so many sectors of the disk, 16,384 words, from the first one on, as 8 digits a line.
+// Writes so many sectors of the disk, 16,384 words, from sector `first` on, as 8 digits a line.
 pub fn write_disk(disk: &[u32], first: usize, sectors: usize, text: &mut [u8]) -> Written
-    ensures { λ r. ⌜ TextWritten (isPartOf (length (now (disk .entry))) first sectors) (fileText wordDigits (sectorsOf (now (disk .entry)) first sectors)) (now (text .entry)) r (now (text .exit)) ⌝ }
+    ensures { λ r. ⌜ TextWritten (isDiskPart (length (now (disk .entry))) first sectors) (fileText wordDigits (sectorsOf (now (disk .entry)) first sectors)) (now (text .entry)) r (now (text .exit)) ⌝ }
 {
     if !is_part_of(disk.len(), first, sectors) {
         return Written::WrongLength;
@@ -77,7 +77,7 @@ pub fn write_disk(disk: &[u32], first: usize, sectors: usize, text: &mut [u8]) -
     Written::Bytes(lay_sectors(disk, first, sectors, text, &pairs))
 }
 
-// Lays so many sectors of the disk from the first one on, each as a part of the disk, and returns the place after them.
+// Lays so many sectors of the disk from sector `first` on, each as a part of the disk, and returns the place after them.
 fn lay_sectors(
     disk: &[u32],
     first: usize,

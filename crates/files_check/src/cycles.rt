@@ -28,8 +28,13 @@ pub fn refused() {
     try_text(b"F7 the limit", b"1099511627775\n");
     try_text(b"F7 14 digits", b"00000000000001\n");
     try_text(b"F7 no decimal", b"1\nA\n");
+    try_text(b"F7 13 digits", b"9999999999999\n");
     try_text(b"F1 empty line", b"1\n\n");
+    try_text(b"F2 LF alone", b"\n");
+    try_text(b"F3 CR", b"1\r\n");
+    try_text(b"F3 sign", b"+1\n");
     try_text(b"F8 no word left", b"0\n5\n6\n6\n");
+    try_text(b"F8 room asked before digits", b"0\n5\n6\nx\n");
     try_text(b"F8 equal", b"5\n5\n");
     try_text(b"F8 lower", b"5\n7\n6\n");
     try_text(b"F8 digits asked before rising", b"5\n4x\n");

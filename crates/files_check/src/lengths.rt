@@ -1,21 +1,49 @@
-// F12, F13: lengths of lent memories.
+// F11, F12, F13: lengths of lent memories, and each memory written and read back.
 use crate::say::end;
 use crate::say::say_read;
 use crate::say::say_written;
+use crate::say::show;
 use files::read_data;
 use files::read_disk;
 use files::read_frame;
 use files::read_image;
+use files::write_data;
 use files::write_frame;
+use files::write_image;
 
 pub fn lengths() {
     image();
+    short_image();
     words();
     frame();
     part();
 }
 
+// An image word's bits above 47 are not written, and are zero when it is read.
 fn image() {
+    let image = [0xFFFF_8000_0000_0001u64; 4096];
+    let mut text = [b'.'; 53249];
+    say_written(b"F12 image written", write_image(&image, &mut text));
+    end();
+    read_back(&text);
+}
+
+fn read_back(text: &[u8]) {
+    if text.len() < 53248 {
+        return;
+    }
+    let mut image = [7u64; 4096];
+    say_read(b"F11 image back", read_image(&text[0..53248], &mut image));
+    show_image(image);
+}
+
+fn show_image(image: [u64; 4096]) {
+    show(image[0]);
+    show(image[4095]);
+    end();
+}
+
+fn short_image() {
     let mut image = [0u64; 4095];
     say_read(b"F12 image", read_image(b"", &mut image));
     end();
@@ -26,6 +54,9 @@ fn words() {
     say_read(b"F12 data", read_data(b"", &mut memory));
     end();
     say_read(b"F13 33 sectors", read_disk(b"", &mut memory));
+    end();
+    let mut text = [b'.'; 8];
+    say_written(b"F12 data written", write_data(&memory, &mut text));
     end();
 }
 

@@ -49,7 +49,7 @@ pub fn past_the_end() {
 }
 
 fn try_more(point: &[u8], at: usize, byte: u8) {
-    let disk = [0xBEu32; 16384];
+    let disk = [0u32; 16384];
     let mut text = [48u8; 1153];
     write_disk(&disk, 0, 1, &mut text);
     put_byte(&mut text, at, byte);

@@ -11,8 +11,8 @@ use lib.ListN.{length, length-append, getD, drop, drop-of-length-le}
 use lib.Seq.{drop-cons}
 use lib.Dec.{ltb, eqb}
 use borrow.Author.Tests.{lt-ltb, le-ltb, ltb-true, eqb-true}
-use Rattle.text.specs.declared.Numeral.the-variants.{Value, NotDigits}
-use Rattle.text.specs.Numerals.{digit, digitValue, digits, allDigits, valueAfter, value}
+use Rattle.text.specs.declared.Numeral.the-variants.{Value, NoNumeral}
+use Rattle.text.specs.Numerals.{digit, digitValue, digits, allDigits, value}
 use Rattle.text.proofs.Truth.{and-left, and-right, below}
 
 -- ---- one digit
@@ -27,6 +27,21 @@ digit-lt v h = ltb-true _ _ (below (λ v. ltb (digit v) 128) 16 refl v h)
 -- Figures stand together, and so do capitals.
 pub digit-is : (v : ℕ) → v < 16 → cond (ltb v 10) (48 + v) (55 + v) ≡ digit v
 digit-is v h = eqb-true _ _ (below (λ v. eqb (cond (ltb v 10) (48 + v) (55 + v)) (digit v)) 16 refl v h)
+
+-- ---- the number as it is read, digit by digit
+
+-- What digits stand for where those before them stand for `acc`.
+unfoldable pub valueAfter : ℕ → ℕ → List ℕ → ℕ
+valueAfter b acc [] = acc
+valueAfter b acc (c ∷ cs) = valueAfter b (acc * b + digitValue c) cs
+
+after-is : (b acc : ℕ) (cs : List ℕ) → valueAfter b acc cs ≡ acc * b ^ length cs + value b cs
+unfolding valueAfter value
+after-is b acc [] = rw (pow-zero, mul-one, add-zero)
+after-is b acc (c ∷ cs) = after-is b (acc * b + digitValue c) cs ∙ rw (pow-succ', add-mul, mul-assoc, add-assoc)
+
+pub value-is : (b : ℕ) (cs : List ℕ) → valueAfter b 0 cs ≡ value b cs
+value-is b cs = after-is b 0 cs ∙ rw (zero-mul, zero-add)
 
 -- ---- the digits that are written
 
@@ -47,6 +62,11 @@ module _ (b : ℕ) (some : 0 < b) where
       let low = mod-mul v (power-pos k) some in
       let small = mod-lt v some in
       rw (add-suc, digits, digits-split j k (v / b), append-assoc, pow-suc, low, digits-div (v / b % b ^ k) small, digits-mod (v / b % b ^ k) small, div-div-eq-div-mul, mul-comm b (b ^ k))
+
+  -- Only the low digits are written.
+  pub digits-low : (k v : ℕ) → digits b k (v % b ^ k) ≡ digits b k v
+  unfolding digits
+  digits-low k v = sym (ap (λ (n : ℕ). digits b n v) (sym (zero-add k)) ∙ digits-split 0 k v)
 
   module _ (few : b ≤ 16) where
     low-digit : (v : ℕ) → digitValue (digit (v % b)) ≡ v % b
@@ -75,7 +95,9 @@ module _ (b : ℕ) (some : 0 < b) where
 
     pub value-written : (k v : ℕ) → value b (digits b k v) ≡ v % b ^ k
     unfolding valueAfter
-    value-written k v = rw (← append-nil (digits b k v)) (value-digits k v 0 [] ∙ rw (zero-mul, zero-add))
+    value-written k v =
+        sym (value-is b (digits b k v))
+        ∙ rw (← append-nil (digits b k v)) (value-digits k v 0 [] ∙ rw (zero-mul, zero-add))
 
 -- ---- the digits that are read
 
@@ -89,7 +111,7 @@ value-after-lt b a m (c ∷ s) e h =
     (value-after-lt b (a * b + digitValue c) (m * b) s (and-right (ltb (digitValue c) b) (allDigits b s) e) (digits-lt h d))
 
 pub value-lt : (b : ℕ) (s : List ℕ) → allDigits b s ≡ true → value b s < b ^ length s
-value-lt b s e = rw one-mul at (value-after-lt b 0 1 s e (omega arith))
+value-lt b s e = rw (← value-is b s) (rw one-mul at (value-after-lt b 0 1 s e (omega arith)))
 
 -- A turn of the readers, at the byte i.
 module _ (b i : ℕ) (s : List ℕ) (h : i < length s) (d : ℕ) (e : d ≡ digitValue (getD s i 0)) where
@@ -132,30 +154,30 @@ module _ (b i : ℕ) (s : List ℕ) (h : length s ≤ i) where
 -- ---- an answer that is a number where a test holds
 
 module _ (t : Bool) (n : ℕ) where
-  pub number-yes : (v : ℕ) → cond t (Value n) NotDigits ≡ Value v → t ≡ true
+  pub number-yes : (v : ℕ) → cond t (Value n) NoNumeral ≡ Value v → t ≡ true
   number-yes v = go t
     where
-      go : (t : Bool) → cond t (Value n) NotDigits ≡ Value v → t ≡ true
+      go : (t : Bool) → cond t (Value n) NoNumeral ≡ Value v → t ≡ true
       go true e = refl
       go false e = cc
 
-  pub number-no : cond t (Value n) NotDigits ≡ NotDigits → t ≡ false
+  pub number-no : cond t (Value n) NoNumeral ≡ NoNumeral → t ≡ false
   number-no = go t
     where
-      go : (t : Bool) → cond t (Value n) NotDigits ≡ NotDigits → t ≡ false
+      go : (t : Bool) → cond t (Value n) NoNumeral ≡ NoNumeral → t ≡ false
       go true e = cc
       go false e = refl
 
-  pub number-value : (v : ℕ) → cond t (Value n) NotDigits ≡ Value v → v ≡ n
+  pub number-value : (v : ℕ) → cond t (Value n) NoNumeral ≡ Value v → v ≡ n
   number-value v = go t
     where
-      go : (t : Bool) → cond t (Value n) NotDigits ≡ Value v → v ≡ n
+      go : (t : Bool) → cond t (Value n) NoNumeral ≡ Value v → v ≡ n
       go true e = cc
       go false e = cc
 
   -- The number, or 0 where there is none.
-  pub number-is : (v : ℕ) → cond t (Value n) NotDigits ≡ Value v → v ≡ cond t n 0
+  pub number-is : (v : ℕ) → cond t (Value n) NoNumeral ≡ Value v → v ≡ cond t n 0
   number-is v e = rw (number-yes v e) (number-value v e)
 
-  pub number-none : cond t (Value n) NotDigits ≡ NotDigits → 0 ≡ cond t n 0
+  pub number-none : cond t (Value n) NoNumeral ≡ NoNumeral → 0 ≡ cond t n 0
   number-none e = rw (number-no e)

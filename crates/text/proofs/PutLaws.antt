@@ -4,8 +4,9 @@ use mathlib.Core.Path.{_≡_, refl, sym, _∙_, ap}
 use mathlib.Core.List.{List, [], _∷_, _++_}
 use native.Mathlib.Nat.{add-zero, add-suc, suc-add, zero-add}
 use native.Mathlib.Omega.{arith}
-use lib.ListN.{length, drop, set}
-use lib.Seq.{sets-eq, length-sets, set-comm}
+use native.Mathlib.Numerals.{add-one}
+use lib.ListN.{getD, drop-of-length-le, length, drop, set}
+use lib.Seq.{drop-cons, sets-eq, length-sets, set-comm}
 use Rattle.text.specs.Place.{put}
 
 pub put-nil : (d : List ℕ) (at : ℕ) → put d at [] ≡ d
@@ -47,3 +48,13 @@ put-before d at n (x ∷ xs) ys e =
 pub put-front : (d xs : List ℕ) → length xs ≤ length d → put d 0 xs ≡ xs ++ drop (length xs) d
 unfolding put
 put-front d xs h = sets-eq xs d 0 (rw zero-add h) ∙ rw zero-add
+
+-- A turn of a copy: the element i of xs is stored.
+module _ (d xs : List ℕ) (at i : ℕ) where
+  pub copy-turn : i < length xs → put (set d (at + i) (getD xs i 0)) (at + (i + 1)) (drop (i + 1) xs) ≡ put d (at + i) (drop i xs)
+  unfolding put
+  copy-turn h = rw (add-one i, drop-cons xs i 0 h, add-suc)
+
+  pub copy-end : length xs ≤ i → d ≡ put d (at + i) (drop i xs)
+  unfolding put
+  copy-end h = rw (drop-of-length-le xs h)

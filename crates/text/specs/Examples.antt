@@ -2,10 +2,10 @@
 use Prim.Native.Nat.{ℕ}
 use mathlib.Core.Path.{_≡_, refl}
 use mathlib.Core.Bool.{true, false}
-use mathlib.Core.List.{List, [], _∷_}
+use mathlib.Core.List.{List, [], _∷_, map}
 use Rattle.text.specs.Bytes.{bytes}
 use Rattle.text.specs.Questions.{Question, accepted, refused, firstNo, firstBad}
-use Rattle.text.specs.Numerals.{digits, allDigits, valueAfter, value, digitCount, digitCountUpTo, decimal}
+use Rattle.text.specs.Numerals.{digitValue, digits, allDigits, value, digitCount, digitCountUpTo, decimal}
 use Rattle.text.specs.Lines.{lines, unlines}
 use Rattle.text.specs.Place.{put}
 
@@ -20,7 +20,7 @@ two-digits = refl
 
 -- `02bF` are digits and stand for 0x2BF; in base 10 `b` is none.
 either-case : value 16 (bytes "02bF") ≡ 0x2BF
-unfolding valueAfter
+unfolding value
 either-case = refl
 
 all-hexadecimal : allDigits 16 (bytes "02bF") ≡ true
@@ -36,9 +36,9 @@ zero-decimal : decimal 0 ≡ bytes "0"
 unfolding decimal digits digitCount digitCountUpTo
 zero-decimal = refl
 
-clock-decimal : decimal 1024 ≡ bytes "1024"
+thousand-decimal : decimal 1024 ≡ bytes "1024"
 unfolding decimal digits digitCount digitCountUpTo
-clock-decimal = refl
+thousand-decimal = refl
 
 -- `A` LF and `A` are one line each; the empty text is none, an LF alone an empty one.
 line-with-lf : lines (bytes "A\n") ≡ (bytes "A") ∷ []
@@ -67,7 +67,7 @@ unfolding put
 laid = refl
 
 -- The first no decides, and the first bad line.
-second-question : firstNo ((1, true) ∷ (15, false) ∷ (16, false) ∷ []) 0 (accepted 7) ≡ refused 15 0
+second-question : firstNo ((1, true) ∷ (16, false) ∷ (15, false) ∷ []) 0 (accepted 7) ≡ refused 16 0
 second-question = refl
 
 -- A question that the empty line gets a no to.
@@ -78,3 +78,7 @@ hasBytes i (c ∷ l) = (9, true) ∷ []
 third-line : firstBad hasBytes 0 (lines (bytes "A\nB\n\n\n")) (accepted 0) ≡ refused 9 3
 unfolding firstBad lines hasBytes
 third-line = refl
+
+-- The bytes beside the digits are none.
+beside : map digitValue (bytes "/09:@AFG`afg") ≡ 16 ∷ 0 ∷ 9 ∷ 16 ∷ 16 ∷ 10 ∷ 15 ∷ 16 ∷ 16 ∷ 10 ∷ 15 ∷ 16 ∷ []
+beside = refl

@@ -1,14 +1,14 @@
 -- Numerals in a base from 2 to 16, over the number of their digits.
-use Prim.Native.Nat.{ℕ, zero, suc, _+_, _-_, _*_, _/_, _%_, _<_}
+use Prim.Native.Nat.{_^_, ℕ, zero, suc, _+_, _-_, _*_, _/_, _%_, _<_}
 use Prim.Native.Char.{Char, code}
 use mathlib.Core.Path.{_≡_}
 use mathlib.Core.Bool.{Bool, true, cond, _&&_}
 use mathlib.Core.List.{List, [], _∷_, _++_}
 use lib.Dec.{ltb, leb}
-use lib.ListN.{getD}
+use lib.ListN.{length, getD}
 use Rattle.text.specs.Bytes.{bytes}
 use Rattle.text.specs.declared.Numeral.{Numeral}
-use Rattle.text.specs.declared.Numeral.the-variants.{Value, NotDigits}
+use Rattle.text.specs.declared.Numeral.the-variants.{Value, NoNumeral}
 
 -- ---- one digit
 
@@ -16,7 +16,7 @@ use Rattle.text.specs.declared.Numeral.the-variants.{Value, NotDigits}
 abbrev pub digit : ℕ → ℕ
 digit v = getD (bytes "0123456789ABCDEF") v 0
 
--- The byte c stands between two characters.
+-- The byte c stands between two characters, or is one of them.
 abbrev pub isBetween : Char → Char → ℕ → Bool
 isBetween first last c = leb (code first) c && leb c (code last)
 
@@ -30,37 +30,34 @@ digitValue c =
 
 -- ---- many digits
 
--- The last k digits of v in base b, the most significant first.
+-- The last k digits of v in base b, the most significant first, leading zeros included.
 unfoldable pub digits : ℕ → ℕ → ℕ → List ℕ
 digits b zero v = []
 digits b (suc k) v = digits b k (v / b) ++ (digit (v % b) ∷ [])
 
--- Each of these bytes is a digit of base b.
+-- Each of these bytes is a digit of base b (2 to 16). Of no bytes at all this holds: who needs a digit asks for one.
 unfoldable pub allDigits : ℕ → List ℕ → Bool
 allDigits b [] = true
 allDigits b (c ∷ cs) = ltb (digitValue c) b && allDigits b cs
 
--- The number that digits in base b stand for, where those before them stand for `acc`.
-unfoldable pub valueAfter : ℕ → ℕ → List ℕ → ℕ
-valueAfter b acc [] = acc
-valueAfter b acc (c ∷ cs) = valueAfter b (acc * b + digitValue c) cs
-
--- The number that digits in base b stand for.
-abbrev pub value : ℕ → List ℕ → ℕ
-value b cs = valueAfter b 0 cs
+-- The number that digits in base b stand for: each is worth its value times a power of b.
+unfoldable pub value : ℕ → List ℕ → ℕ
+value b [] = 0
+value b (c ∷ cs) = digitValue c * b ^ length cs + value b cs
 
 -- What reading bytes as digits of base b answers.
 abbrev pub numeral : ℕ → List ℕ → Numeral
-numeral b cs = cond (allDigits b cs) (Value (value b cs)) NotDigits
+numeral b cs = cond (allDigits b cs) (Value (value b cs)) NoNumeral
 
 -- ---- no leading zeros
 
--- How many digits v has in base b, the leading zeros left out: one at least. The first argument bounds them.
+-- The count by at most f divisions; v are enough, since a number is larger than the count of its digits, but for 0.
 unfoldable pub digitCountUpTo : ℕ → ℕ → ℕ → ℕ
 digitCountUpTo zero b v = 1
 digitCountUpTo (suc f) b v = let more = suc (digitCountUpTo f b (v / b)) in cond (ltb v b) 1 more
 
--- A number has no more than v digits, but for 0, which has one.
+-- How many digits v has in base b, leading zeros left out: the least count, one at least, with v < b ^ count (`count-holds`,
+-- `count-least`). It divides until one digit is left.
 unfoldable pub digitCount : ℕ → ℕ → ℕ
 digitCount b v = digitCountUpTo v b v
 

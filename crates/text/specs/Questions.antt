@@ -1,4 +1,5 @@
--- Questions asked in an order: the first that gets a no refuses the call.
+-- Questions asked in an order: the first that gets a no refuses the call. Document 01 gives the form ("Questions asked"); which questions
+-- a call asks stands with the call.
 use Prim.Native.Nat.{ℕ, _+_}
 use mathlib.Core.Bool.{Bool, cond}
 use mathlib.Core.List.{List, [], _∷_}
@@ -8,8 +9,8 @@ use lib.Dec.{eqb}
 abbrev pub Question : Type 0
 Question = ℕ × Bool
 
--- What a call tells its caller. Accepted: number 0, place 0 and a count. Refused: "A no gives the number and a place (line from 1,
--- listed word from 0, else 0) ..; every count and reason 0."
+-- What a call tells its caller. Accepted: number 0, place 0 and a count, 0 where the call has none. Refused: "A no gives the number and a
+-- place (line from 1, listed word from 0, else 0) .. every count and reason 0" (a run's reason stands with the run).
 pub record Told : Type 0 where
   pub number : ℕ
   pub place : ℕ

@@ -1,4 +1,4 @@
-// Decimals without leading zeros.
+// Decimals, with a number of digits or without leading zeros.
 use crate::digits::digit;
 ghost use mathlib.Core.Path.{_≡_};
 ghost use Prim.Native.Nat.{_+_, _≤_};
@@ -6,7 +6,7 @@ ghost use lib.ListN.{length};
 ghost use Rattle.text.specs.Numerals.{digitCount, digits, decimal};
 ghost use Rattle.text.specs.Place.{put};
 
-// How many digits v has in decimal.
+// How many digits v has in decimal; 20 at most, as callers want to know.
 pub fn digit_count(v: u64) -> usize
     ensures { λ r. ⌜ (r ≡ digitCount 10 v) × (r ≤ 20) ⌝ }
 {
@@ -25,12 +25,12 @@ pub fn put_decimal(out: &mut [u8], at: usize, v: u64) -> usize
     ensures { λ r. ⌜ (now (out .exit) ≡ put (now (out .entry)) at (decimal v)) × (r ≡ at + digitCount 10 v) ⌝ }
 {
     let n = digit_count(v);
-    put_digits(out, at, n, v);
+    put_decimal_digits(out, at, n, v);
     at + n
 }
 
 // Lays the k low decimal digits of v at a place.
-pub fn put_digits(out: &mut [u8], at: usize, k: usize, v: u64)
+pub fn put_decimal_digits(out: &mut [u8], at: usize, k: usize, v: u64)
     requires { ⌜ at + k ≤ length (now out) ⌝ }
     ensures { λ _. ⌜ now (out .exit) ≡ put (now (out .entry)) at (digits 10 k v) ⌝ }
 {

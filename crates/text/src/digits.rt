@@ -7,7 +7,7 @@ ghost use lib.ListN.{length, getD};
 ghost use Rattle.text.specs.Numerals.{digit as digitOf, digitValue, digits, allDigits, value, numeral, DigitValues, HexPairs};
 ghost use Rattle.text.specs.Place.{put};
 
-// What a letter's byte has more than the digit is worth, for capitals and for small letters.
+// A letter's byte less what it is worth as a digit, for capitals and for small letters.
 const CAPITAL: u8 = b'A' - 10;
 
 const SMALL: u8 = b'a' - 10;
@@ -94,7 +94,7 @@ pub fn put_pair(out: &mut [u8], at: usize, n: usize, pairs: &[u16; 256])
 
 // Whether all bytes of a part are digits of a base.
 pub fn all_digits(s: &[u8], base: u64, values: &[u8; 256]) -> bool
-    requires { ⌜ DigitValues (now values) ⌝ }
+    requires { ⌜ (base ≤ 16) × DigitValues (now values) ⌝ }
     ensures { λ r. ⌜ r ≡ allDigits base (now (s .entry)) ⌝ }
 {
     let mut i = 0;
@@ -121,15 +121,15 @@ pub fn value_of(s: &[u8], base: u64, values: &[u8; 256]) -> u64
     acc
 }
 
-// Reads all bytes of a part as digits of a base.
+// Reads all bytes of a part as digits of a base; no bytes at all read as 0.
 pub fn read_digits(s: &[u8], base: u64, values: &[u8; 256]) -> Numeral
-    requires { ⌜ (base ^ length (now s) ≤ 2 ^ 64) × DigitValues (now values) ⌝ }
+    requires { ⌜ (base ≤ 16) × ((base ^ length (now s) ≤ 2 ^ 64) × DigitValues (now values)) ⌝ }
     ensures { λ r. ⌜ r ≡ numeral base (now (s .entry)) ⌝ }
 {
     if all_digits(s, base, values) {
         return Numeral::Value(value_of(s, base, values));
     }
-    Numeral::NotDigits
+    Numeral::NoNumeral
 }
 
 // What the byte at i is worth as a digit.

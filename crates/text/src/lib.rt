@@ -1,10 +1,11 @@
-// Numerals and lines in slices of bytes. Nothing here knows of a computer.
+// Numerals and lines in slices of bytes, and the form of questions asked. Nothing here knows of a computer.
 pub mod decimal;
 pub mod digits;
 pub mod lines;
+pub mod place;
 
-// What reading digits answers: the number that they stand for, or that a byte is no digit.
+// What reading a numeral answers: its number, or that it is none.
 pub enum Numeral {
     Value(u64),
-    NotDigits,
+    NoNumeral,
 }

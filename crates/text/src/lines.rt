@@ -7,7 +7,8 @@ ghost use Rattle.text.specs.Lines.{firstLine, endsLine};
 // The byte that ends a line.
 pub const LF: u8 = b'\n';
 
-// The place where the line that begins at `from` ends: that of its LF, or the end of the text.
+// The place where the line that begins at `from` ends: that of its LF, or the end of the text. (It lies within the text, as callers want to
+// know.)
 pub fn line_end(s: &[u8], from: usize) -> usize
     requires { ⌜ from ≤ length (now s) ⌝ }
     ensures { λ r. ⌜ (r ≡ from + length (firstLine (drop from (now (s .entry))))) × (r ≤ length (now (s .entry))) ⌝ }
@@ -22,7 +23,7 @@ pub fn line_end(s: &[u8], from: usize) -> usize
     at
 }
 
-// Whether a line can end at this place: an LF stands there, or the text ends.
+// Whether a line can end at this place: an LF stands there, or the text ends there or before.
 pub fn ends_line(s: &[u8], at: usize) -> bool
     ensures { λ r. ⌜ r ≡ endsLine (now (s .entry)) at ⌝ }
 {

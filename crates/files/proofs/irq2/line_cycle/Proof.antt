@@ -1,5 +1,6 @@
 -- `files::irq2::line_cycle` meets its contract.
 use mathlib.Core.Path.{sym, _∙_}
+use native.Mathlib.Omega.{arith}
 use borrow.Author.Tests.{le-leb, lt-leb}
 use borrow.Author.Needs.{needs}
 use Rattle.files.proofs.Irq2Laws.{few-fit, cycle-no, cycle-yes, cycle-over}
@@ -13,7 +14,7 @@ returns-2 : tie.Need-returns-2
 returns-2 c = rw (le-leb _ _ (c .before .if1 .left), lt-leb _ _ (c .if2 .taken))
 
 read-digits-requires : tie.Need-read-digits-requires
-read-digits-requires c κs = (few-fit _ (c .if2 .left), c .before .before .before .pre)
+read-digits-requires c κs = (omega arith, (few-fit _ (c .if2 .left), c .before .before .before .pre))
 
 enum-known-cycle : tie.Need-enum-known-cycle
 enum-known-cycle c = search needs

@@ -2,6 +2,7 @@
 use mathlib.Core.Path.{sym, _∙_}
 use borrow.Author.Tests.{not-true, not-false}
 use borrow.Author.Needs.{needs}
+use Rattle.files.specs.Sizes.{isPartLength}
 use Rattle.files.proofs.AnswerLaws.{read-wrong-length, read-asked}
 use Rattle.files.proofs.read.read_disk.Statement.{statement}
 use Rattle.files.proofs.read.read_disk.Tie as tie
@@ -12,7 +13,7 @@ is-part-requires c κs = search needs
 returns : tie.Need-returns
 returns c =
     let a = c .before .before .before .before .args in
-    read-wrong-length 8 _ (a .text .now) (a .part .now) (sym (c .before .is-part .ensures) ∙ not-true _ (c .if1 .taken))
+    read-wrong-length 8 isPartLength (a .text .now) (a .part .now) (sym (c .before .is-part .ensures) ∙ not-true _ (c .if1 .taken))
 
 read-words-requires : tie.Need-read-words-requires
 read-words-requires c κs = search needs
@@ -23,7 +24,7 @@ same-length c = search needs
 returns-2 : tie.Need-returns-2
 returns-2 c =
     let a = c .before .before .before .before .before .before .before .before .args in
-    read-asked 8 _ (a .text .now) (a .part .now) (sym (c .before .before .before .before .before .is-part .ensures) ∙ not-false _ (c .before .before .before .before .if1 .left)) _ _ (c .before .before .read-words .ensures)
+    read-asked 8 isPartLength (a .text .now) (a .part .now) (sym (c .before .before .before .before .before .is-part .ensures) ∙ not-false _ (c .before .before .before .before .if1 .left)) _ _ (c .before .before .read-words .ensures)
 
 pub read-disk-spec : {M : Type 1} → statement M
 read-disk-spec =

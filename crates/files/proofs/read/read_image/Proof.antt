@@ -5,12 +5,13 @@ use borrow.Author.Tests.{eq-eqb, ne-eqb}
 use borrow.Author.Needs.{needs}
 use Rattle.text.specs.Questions.{Told}
 use Rattle.files.specs.Answers.{fileReadTold}
+use Rattle.files.specs.Sizes.{isImageLength}
 use Rattle.files.proofs.AnswerLaws.{read-wrong-length, read-refused, read-filled}
 use Rattle.files.proofs.read.read_image.Statement.{statement}
 use Rattle.files.proofs.read.read_image.Tie as tie
 
 returns : tie.Need-returns
-returns c = let a = c .before .before .before .args in read-wrong-length 12 _ (a .text .now) (a .image .now) (ne-eqb (length (a .image .now)) 4096 (c .if1 .taken))
+returns c = let a = c .before .before .before .args in read-wrong-length 12 isImageLength (a .text .now) (a .image .now) (ne-eqb (length (a .image .now)) 4096 (c .if1 .taken))
 
 digit-values-requires : tie.Need-digit-values-requires
 digit-values-requires c κs = search needs
@@ -39,22 +40,22 @@ same-length c = search needs
 returns-2 : tie.Need-returns-2
 returns-2 c =
     let a = c .before .before .before .before .before .before .before .before .before .before .before .before .before .args in
-    read-filled 12 _ (a .text .now) (a .image .now) (eq-eqb (length (a .image .now)) 4096 (c .before .before .before .before .before .before .before .before .before .before .if1 .left)) _ (sym (ap fileReadTold (c .before .before .before .before .before .enum-told .given .1)) ∙ c .before .before .before .before .before .before .before .check-words .ensures) (c .before .before .fill-image .ensures)
+    read-filled 12 isImageLength (a .text .now) (a .image .now) (eq-eqb (length (a .image .now)) 4096 (c .before .before .before .before .before .before .before .before .before .before .if1 .left)) _ (sym (ap fileReadTold (c .before .before .before .before .before .enum-told .given .1)) ∙ c .before .before .before .before .before .before .before .check-words .ensures) (c .before .before .fill-image .ensures)
 
 returns-3 : tie.Need-returns-3
 returns-3 c =
     let a = c .before .before .before .before .before .before .before .before .args in
-    read-refused 12 _ (a .text .now) (a .image .now) (eq-eqb (length (a .image .now)) 4096 (c .before .before .before .before .before .if1 .left)) _ (sym (ap fileReadTold (c .enum-told2 .given .1)) ∙ c .before .before .check-words .ensures) refl
+    read-refused 12 isImageLength (a .text .now) (a .image .now) (eq-eqb (length (a .image .now)) 4096 (c .before .before .before .before .before .if1 .left)) _ (sym (ap fileReadTold (c .enum-told2 .given .1)) ∙ c .before .before .check-words .ensures) refl
 
 returns-4 : tie.Need-returns-4
 returns-4 c =
     let a = c .before .before .before .before .before .before .before .before .before .args in
-    read-refused 12 _ (a .text .now) (a .image .now) (eq-eqb (length (a .image .now)) 4096 (c .before .before .before .before .before .before .if1 .left)) _ (sym (ap fileReadTold (c .before .line .given .1)) ∙ c .before .before .before .check-words .ensures) refl
+    read-refused 12 isImageLength (a .text .now) (a .image .now) (eq-eqb (length (a .image .now)) 4096 (c .before .before .before .before .before .before .if1 .left)) _ (sym (ap fileReadTold (c .before .line .given .1)) ∙ c .before .before .before .check-words .ensures) refl
 
 returns-5 : tie.Need-returns-5
 returns-5 c =
     let a = c .before .before .before .before .before .before .before .before .before .args in
-    read-refused 12 _ (a .text .now) (a .image .now) (eq-eqb (length (a .image .now)) 4096 (c .before .before .before .before .before .before .if1 .left)) _ (sym (ap fileReadTold (c .before .line2 .given .1)) ∙ c .before .before .before .check-words .ensures) refl
+    read-refused 12 isImageLength (a .text .now) (a .image .now) (eq-eqb (length (a .image .now)) 4096 (c .before .before .before .before .before .before .if1 .left)) _ (sym (ap fileReadTold (c .before .line2 .given .1)) ∙ c .before .before .before .check-words .ensures) refl
 
 pub read-image-spec : {M : Type 1} → statement M
 read-image-spec =

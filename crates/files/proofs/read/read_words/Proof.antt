@@ -35,22 +35,22 @@ same-length c = search needs
 returns : tie.Need-returns
 returns c =
     let a = c .before .before .before .before .before .before .before .before .before .before .before .before .args in
-    read-filled 8 true (a .text .now) (a .memory .now) refl _ (sym (ap fileReadTold (c .before .before .before .before .before .enum-told .given .1)) ∙ c .before .before .before .before .before .before .before .check-words .ensures) (c .before .before .fill-words .ensures)
+    read-filled 8 (λ n. true) (a .text .now) (a .memory .now) refl _ (sym (ap fileReadTold (c .before .before .before .before .before .enum-told .given .1)) ∙ c .before .before .before .before .before .before .before .check-words .ensures) (c .before .before .fill-words .ensures)
 
 returns-2 : tie.Need-returns-2
 returns-2 c =
     let a = c .before .before .before .before .before .before .before .args in
-    read-refused 8 true (a .text .now) (a .memory .now) refl _ (sym (ap fileReadTold (c .enum-told2 .given .1)) ∙ c .before .before .check-words .ensures) refl
+    read-refused 8 (λ n. true) (a .text .now) (a .memory .now) refl _ (sym (ap fileReadTold (c .enum-told2 .given .1)) ∙ c .before .before .check-words .ensures) refl
 
 returns-3 : tie.Need-returns-3
 returns-3 c =
     let a = c .before .before .before .before .before .before .before .before .args in
-    read-refused 8 true (a .text .now) (a .memory .now) refl _ (sym (ap fileReadTold (c .before .line .given .1)) ∙ c .before .before .before .check-words .ensures) refl
+    read-refused 8 (λ n. true) (a .text .now) (a .memory .now) refl _ (sym (ap fileReadTold (c .before .line .given .1)) ∙ c .before .before .before .check-words .ensures) refl
 
 returns-4 : tie.Need-returns-4
 returns-4 c =
     let a = c .before .before .before .before .before .before .before .before .args in
-    read-refused 8 true (a .text .now) (a .memory .now) refl _ (sym (ap fileReadTold (c .before .line2 .given .1)) ∙ c .before .before .before .check-words .ensures) refl
+    read-refused 8 (λ n. true) (a .text .now) (a .memory .now) refl _ (sym (ap fileReadTold (c .before .line2 .given .1)) ∙ c .before .before .before .check-words .ensures) refl
 
 pub read-words-spec : {M : Type 1} → statement M
 read-words-spec =

@@ -5,7 +5,7 @@ use native.Mathlib.Omega.{arith}
 use lib.ListN.{length}
 use borrow.Author.Tests.{not-true, not-false}
 use borrow.Author.Needs.{needs}
-use Rattle.files.specs.Sizes.{isPartOf}
+use Rattle.files.specs.Sizes.{isDiskPart}
 use Rattle.files.specs.MemoryFile.{fileText, sectorsOf}
 use Rattle.files.proofs.SizeLaws.{part-words, part-within, length-part}
 use Rattle.files.proofs.AnswerLaws.{wrong-length, no-room, wrote}
@@ -13,7 +13,7 @@ use Rattle.files.proofs.write.write_disk.Statement.{statement}
 use Rattle.files.proofs.write.write_disk.Tie as tie
 
 -- The disk and the part were asked.
-part-yes : (c : tie.Else1) → isPartOf (length (c .before .before .before .before .args .disk .now)) (c .before .before .before .before .args .first) (c .before .before .before .before .args .sectors) ≡ true
+part-yes : (c : tie.Else1) → isDiskPart (length (c .before .before .before .before .args .disk .now)) (c .before .before .before .before .args .first) (c .before .before .before .before .args .sectors) ≡ true
 part-yes c = sym (c .before .is-part-of .ensures) ∙ not-false _ (c .if1 .left)
 
 is-part-of-requires : tie.Need-is-part-of-requires

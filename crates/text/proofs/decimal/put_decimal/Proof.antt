@@ -11,8 +11,8 @@ use Rattle.text.proofs.decimal.put_decimal.Tie as tie
 digit-count-requires : tie.Need-digit-count-requires
 digit-count-requires c κs = search needs
 
-put-digits-requires : tie.Need-put-digits-requires
-put-digits-requires c κs = search needs
+put-decimal-digits-requires : tie.Need-put-decimal-digits-requires
+put-decimal-digits-requires c κs = search needs
 
 add-result : tie.Need-add-result
 add-result c = search needs
@@ -25,8 +25,8 @@ unfolding decimal
 returns c =
     let a = c .before .before .before .before .before .before .args in
     let n = c .before .before .before .before .digit-count in
-    (c .before .before .put-digits .ensures ∙ ap (λ (k : ℕ). put (a .out .now) (a .at) (digits 10 k (a .v))) (n .ensures .0), omega arith)
+    (c .before .before .put-decimal-digits .ensures ∙ ap (λ (k : ℕ). put (a .out .now) (a .at) (digits 10 k (a .v))) (n .ensures .0), omega arith)
 
 pub put-decimal-spec : {M : Type 1} → statement M
 put-decimal-spec =
-    tie.close (tie.spec digit-count-requires put-digits-requires add-result same-length returns)
+    tie.close (tie.spec digit-count-requires put-decimal-digits-requires add-result same-length returns)

@@ -9,7 +9,7 @@ all-digits-requires : tie.Need-all-digits-requires
 all-digits-requires c κs = search needs
 
 value-of-requires : tie.Need-value-of-requires
-value-of-requires c κs = (sym (c .before .all-digits .ensures) ∙ c .if1 .taken, c .before .before .before .pre)
+value-of-requires c κs = (sym (c .before .all-digits .ensures) ∙ c .if1 .taken, c .before .before .before .pre .1)
 
 returns : tie.Need-returns
 returns c = rw (sym (c .before .before .all-digits .ensures) ∙ c .before .if1 .taken) (ap Value (c .value-of .ensures))

@@ -5,8 +5,8 @@ use mathlib.Core.Bool.{true}
 use native.Mathlib.Omega.{arith}
 use native.Mathlib.Nat.{pow-zero}
 use lib.ListN.{length, drop, getD}
-use Rattle.text.specs.Numerals.{digitValue, allDigits, valueAfter, value}
-use Rattle.text.proofs.DigitLaws.{digit-good, digits-good, value-more, value-fits, value-end}
+use Rattle.text.specs.Numerals.{digitValue, allDigits, value}
+use Rattle.text.proofs.DigitLaws.{valueAfter, value-is, digit-good, digits-good, value-more, value-fits, value-end}
 use Rattle.text.proofs.digits.value_of.Statement.{statement}
 use Rattle.text.proofs.digits.value_of.Tie as tie
 
@@ -26,7 +26,7 @@ fitting c d e =
     value-fits (a .base) (l .i) (a .s .now) (c .loop-test .taken) d e (l .acc) (2 ^ 64) (l .inv .2) good (c .before .before .before .pre .1 .0)
 
 loop-holds : tie.Need-loop-holds Inv-loop μ-loop
-loop-holds c = (refl, c .before .pre .0, rw pow-zero (omega arith), omega arith)
+loop-holds c = (value-is _ _, c .before .pre .0, rw pow-zero (omega arith), omega arith)
 
 mul-acc : tie.Need-mul-acc Inv-loop μ-loop
 mul-acc c = omega (arith, fitting c _ refl)

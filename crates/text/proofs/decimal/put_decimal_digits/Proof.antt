@@ -1,4 +1,4 @@
--- `text::decimal::put_digits` meets its contract.
+-- `text::decimal::put_decimal_digits` meets its contract.
 use Prim.Native.Nat.{_≤_}
 use mathlib.Core.Path.{_≡_, _∙_, refl}
 use native.Mathlib.Omega.{arith}
@@ -6,8 +6,8 @@ use lib.ListN.{length, length-set}
 use Rattle.text.proofs.WriteLaws.{write-none, write-one}
 use Rattle.text.specs.Numerals.{digits}
 use Rattle.text.specs.Place.{put}
-use Rattle.text.proofs.decimal.put_digits.Statement.{statement}
-use Rattle.text.proofs.decimal.put_digits.Tie as tie
+use Rattle.text.proofs.decimal.put_decimal_digits.Statement.{statement}
+use Rattle.text.proofs.decimal.put_decimal_digits.Tie as tie
 
 abbrev Inv-loop : tie.InvT-loop
 Inv-loop out₀ at k v left₀ rest₀ out left rest = (put out at (digits 10 left rest) ≡ put out₀ at (digits 10 k v)) × ((length out ≡ length out₀) × (left ≤ k))
@@ -52,8 +52,8 @@ returns c =
     let l = c .before .loop in
     write-none 10 (l .out) (c .before .before .before .args .at) (l .left) (l .rest) (omega arith) ∙ l .inv .0
 
-pub put-digits-spec : {M : Type 1} → statement M
-put-digits-spec =
+pub put-decimal-digits-spec : {M : Type 1} → statement M
+put-decimal-digits-spec =
     tie.close
     (tie.spec
     Inv-loop

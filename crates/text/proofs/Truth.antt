@@ -1,12 +1,12 @@
 -- Laws of tests. Assumes nothing.
 use Prim.Native.Nat.{ℕ, zero, suc, _+_, _-_, _≤_, _<_}
 use mathlib.Core.Path.{_≡_, refl}
-use mathlib.Core.Bool.{Bool, true, false, _&&_, false≢true}
+use mathlib.Core.Bool.{Bool, true, false, cond, _&&_, false≢true}
 use native.Mathlib.Omega.{arith}
 use native.Mathlib.Nat.{not-suc-le-zero, le-of-suc-le-suc}
 use lib.Arith.{lt-of-le-ne}
-use lib.Dec.{leb, eqb}
-use borrow.Author.Tests.{le-leb, lt-leb, leb-true, leb-false, eqb-true, eqb-false}
+use lib.Dec.{leb, ltb, eqb}
+use borrow.Author.Tests.{le-leb, lt-leb, le-ltb, leb-true, leb-false, eqb-true, eqb-false}
 
 pub and-left : (a b : Bool) → (a && b) ≡ true → a ≡ true
 and-left true b e = refl
@@ -37,3 +37,10 @@ below f (suc n) e k h = go (eqb k n) refl (below f n (and-right (f n) (allBelow 
     go : (t : Bool) → eqb k n ≡ t → (k < n → f k ≡ true) → f k ≡ true
     go true same ih = rw (eqb-true k n same) (and-left (f n) (allBelow f n) e)
     go false other ih = ih (lt-of-le-ne (le-of-suc-le-suc h) (eqb-false k n other))
+
+-- The same at each number from lo on, below hi.
+pub between : (f : ℕ → Bool) (lo hi : ℕ) → allBelow (λ n. cond (ltb n lo) true (f n)) hi ≡ true → (k : ℕ) → lo ≤ k → k < hi → f k ≡ true
+between f lo hi e k low high = rw (le-ltb k lo low) at (below (λ n. cond (ltb n lo) true (f n)) hi e k high)
+
+pub same-between : (f : ℕ → ℕ) (v lo hi : ℕ) → allBelow (λ n. cond (ltb n lo) true (eqb v (f n))) hi ≡ true → (k : ℕ) → lo ≤ k → k < hi → v ≡ f k
+same-between f v lo hi e k low high = eqb-true v (f k) (between (λ n. eqb v (f n)) lo hi e k low high)

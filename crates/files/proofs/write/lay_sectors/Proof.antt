@@ -1,6 +1,6 @@
 -- `files::write::lay_sectors` meets its contract.
-use Prim.Native.Nat.{_+_, _-_, _*_, _≤_}
-use mathlib.Core.Path.{_≡_, refl, _∙_}
+use Prim.Native.Nat.{ℕ, _+_, _-_, _*_, _≤_}
+use mathlib.Core.Path.{_≡_, refl, _∙_, ap}
 use native.Mathlib.Omega.{arith}
 use lib.ListN.{length}
 use Rattle.text.specs.Place.{put}
@@ -24,7 +24,7 @@ loop-holds : tie.Need-loop-holds Inv-loop μ-loop
 loop-holds c =
     let a = c .before .before .args in
     let all : a .first + a .sectors - a .first ≡ a .sectors = omega arith in
-    (rw all, refl, omega arith, omega arith, omega arith)
+    (ap (λ (n : ℕ). put (a .text .now) 0 (fileText 8 (sectorsOf (a .disk .now) (a .first) n))) all, refl, omega arith, omega arith, omega arith)
 
 add-loop : tie.Need-add-loop Inv-loop μ-loop
 add-loop c = omega arith

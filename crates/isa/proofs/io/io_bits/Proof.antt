@@ -1,0 +1,50 @@
+-- `isa::io::io_bits` meets its contract.
+use mathlib.Core.Path.{refl, sym}
+use native.Mathlib.Omega.{arith}
+use borrow.Author.Needs.{needs}
+use Rattle.text.proofs.Truth.{same-between}
+use Rattle.isa.specs.Registers.{ioBits}
+use Rattle.isa.proofs.NameLaws.{no-bits-above}
+use Rattle.isa.proofs.io.io_bits.Statement.{statement}
+use Rattle.isa.proofs.io.io_bits.Tie as tie
+
+device-bits-requires : tie.Need-device-bits-requires
+device-bits-requires c κs = search needs
+
+monitor-bits-requires : tie.Need-monitor-bits-requires
+monitor-bits-requires c κs = search needs
+
+returns : tie.Need-returns
+returns c = same-between ioBits 1 0 6 refl (c .before .args .n) (omega arith) (omega arith)
+
+returns-2 : tie.Need-returns-2
+returns-2 c = same-between ioBits 12 6 8 refl (c .before .before .args .n) (omega arith) (omega arith)
+
+returns-3 : tie.Need-returns-3
+returns-3 c = same-between ioBits 32 8 11 refl (c .before .before .before .args .n) (omega arith) (omega arith)
+
+returns-4 : tie.Need-returns-4
+returns-4 c = search needs
+
+returns-5 : tie.Need-returns-5
+returns-5 c = search needs
+
+returns-6 : tie.Need-returns-6
+returns-6 c = same-between ioBits 0 18 20 refl (c .before .before .before .before .before .args .n) (omega arith) (omega arith)
+
+returns-7 : tie.Need-returns-7
+returns-7 c = sym (no-bits-above (c .before .before .before .before .before .before .args .n) (omega arith))
+
+pub io-bits-spec : {M : Type 1} → statement M
+io-bits-spec =
+    tie.close
+    (tie.spec
+    device-bits-requires
+    monitor-bits-requires
+    returns
+    returns-2
+    returns-3
+    returns-4
+    returns-5
+    returns-6
+    returns-7)

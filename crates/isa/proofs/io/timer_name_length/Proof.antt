@@ -1,0 +1,22 @@
+-- `isa::io::timer_name_length` meets its contract.
+use Prim.Native.Nat.{ℕ}
+use mathlib.Core.Path.{refl}
+use native.Mathlib.Omega.{arith}
+use lib.ListN.{length}
+use borrow.Author.Needs.{needs}
+use Rattle.text.proofs.Truth.{same-between}
+use Rattle.isa.specs.Registers.{ioName}
+use Rattle.isa.proofs.io.timer_name_length.Statement.{statement}
+use Rattle.isa.proofs.io.timer_name_length.Tie as tie
+
+returns : tie.Need-returns
+returns c = search needs
+
+returns-2 : tie.Need-returns-2
+returns-2 c = search needs
+
+returns-3 : tie.Need-returns-3
+returns-3 c = same-between (λ (n : ℕ). length (ioName n)) 7 14 15 refl (c .before .args .n) (omega arith) (omega arith)
+
+pub timer-name-length-spec : {M : Type 1} → statement M
+timer-name-length-spec = tie.close (tie.spec returns returns-2 returns-3)

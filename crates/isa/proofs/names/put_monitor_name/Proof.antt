@@ -1,0 +1,48 @@
+-- `isa::names::put_monitor_name` meets its contract.
+use mathlib.Core.Path.{_≡_}
+use native.Mathlib.Omega.{arith}
+use borrow.Author.Needs.{needs}
+use Rattle.isa.proofs.names.put_monitor_name.Statement.{statement}
+use Rattle.isa.proofs.names.put_monitor_name.Tie as tie
+
+slice-aggregate-put-bytes : tie.Need-slice-aggregate-put-bytes
+slice-aggregate-put-bytes c = search needs
+
+put-bytes-requires : tie.Need-put-bytes-requires
+put-bytes-requires c κs = let room = rw (c .before .before .match .keys1) at (c .before .before .before .before .pre .1 .1) in omega arith
+
+slice-aggregate-put-bytes-2 : tie.Need-slice-aggregate-put-bytes-2
+slice-aggregate-put-bytes-2 c = search needs
+
+put-bytes-requires-2 : tie.Need-put-bytes-requires-2
+put-bytes-requires-2 c κs = let room = rw (c .before .before .match .keys2) at (c .before .before .before .before .pre .1 .1) in omega arith
+
+slice-aggregate-put-bytes-3 : tie.Need-slice-aggregate-put-bytes-3
+slice-aggregate-put-bytes-3 c = search needs
+
+put-bytes-requires-3 : tie.Need-put-bytes-requires-3
+put-bytes-requires-3 c κs =
+    let last : c .before .before .before .before .args .n ≡ 22 = omega arith in
+    let room = rw last at (c .before .before .before .before .pre .1 .1) in
+    omega arith
+
+same-length : tie.Need-same-length
+same-length c = search needs
+
+returns : tie.Need-returns
+returns c = rw (c .before .before .before .before .before .match .keys1) (c .before .before .put-bytes .ensures)
+
+same-length-2 : tie.Need-same-length-2
+same-length-2 c = search needs
+
+returns-2 : tie.Need-returns-2
+returns-2 c = rw (c .before .before .before .before .before .match .keys2) (c .before .before .put-bytes2 .ensures)
+
+same-length-3 : tie.Need-same-length-3
+same-length-3 c = search needs
+
+returns-3 : tie.Need-returns-3
+returns-3 c = let last : c .before .before .before .before .before .before .before .args .n ≡ 22 = omega arith in rw last (c .before .before .put-bytes3 .ensures)
+
+pub put-monitor-name-spec : {M : Type 1} → statement M
+put-monitor-name-spec = tie.close (tie.spec slice-aggregate-put-bytes put-bytes-requires slice-aggregate-put-bytes-2 put-bytes-requires-2 slice-aggregate-put-bytes-3 put-bytes-requires-3 same-length returns same-length-2 returns-2 same-length-3 returns-3)

@@ -1,0 +1,55 @@
+-- The definitions computed on document 01's examples.
+use mathlib.Core.Path.{_≡_, refl}
+use mathlib.Core.Bool.{true, false}
+use mathlib.Core.List.{[], _∷_, map}
+use Rattle.text.specs.Bytes.{bytes}
+use Rattle.isa.specs.Word.{fieldsOf, wordOf, signExtended}
+use Rattle.isa.specs.Operations.{operationOf, operationName, branch, bge, halt, unknown}
+use Rattle.isa.specs.Registers.{registerName, ioName, ioBits, isListed, leds}
+
+-- "sub with R8, R1, R2, R2 and 2, 3 encodes as 018122002003"
+encoded : wordOf (record { op = 1; rd = 8; rs = 1; rt = 2; rm = 2; imm1 = 2; imm2 = 3 }) ≡ 0x018122002003
+encoded = refl
+
+decoded : fieldsOf 0x018122002003 ≡ record { op = 1; rd = 8; rs = 1; rt = 2; rm = 2; imm1 = 2; imm2 = 3 }
+decoded = refl
+
+-- Bits above 47 are not read.
+high-bits : fieldsOf 0xFFFF018122002003 ≡ fieldsOf 0x018122002003
+high-bits = refl
+
+-- "immediate 0x7FF stays, 0xFFF gives 0xFFFFFFFF"
+stays : signExtended 0x7FF ≡ 0x7FF
+stays = refl
+
+extended : signExtended 0xFFF ≡ 0xFFFFFFFF
+extended = refl
+
+-- "halt (21)", and no operation above; "bge" before jal.
+last : operationOf 21 ≡ halt
+unfolding operationOf
+last = refl
+
+above : operationOf 22 ≡ unknown
+unfolding operationOf
+above = refl
+
+fourteenth : operationOf 14 ≡ branch bge
+unfolding operationOf
+fourteenth = refl
+
+last-name : operationName 21 ≡ bytes "halt"
+last-name = refl
+
+last-register : registerName 15 ≡ bytes "$ra"
+last-register = refl
+
+-- "9 leds .. (32)"; 18 and 19 are not listed, 22 is the last.
+leds-register : ioName leds ≡ bytes "leds"
+leds-register = refl
+
+leds-bits : ioBits leds ≡ 32
+leds-bits = refl
+
+not-listed : map isListed (17 ∷ 18 ∷ 19 ∷ 20 ∷ 22 ∷ 23 ∷ 0xFFFFFFFF ∷ []) ≡ true ∷ false ∷ false ∷ true ∷ true ∷ false ∷ false ∷ []
+not-listed = refl

@@ -1,0 +1,79 @@
+-- "Opcodes from 0: add sub mac and or xor sll sra srl beq bne blt bgt ble bge jal lw sw reti in out halt (21)."
+use Prim.Native.Nat.{ℕ}
+use mathlib.Core.List.{List, [], _∷_}
+use lib.ListN.{getD}
+use Rattle.text.specs.Bytes.{bytes}
+
+-- What calculates R[rd] from R[rs], R[rt] and R[rm].
+pub data Calculation : Type 0 where
+  add sub mac and or xor sll sra srl : Calculation
+
+-- What a branch compares R[rs] with R[rt] for.
+pub data Comparison : Type 0 where
+  beq bne blt bgt ble bge : Comparison
+
+pub data Operation : Type 0 where
+  calculate : Calculation → Operation
+  branch : Comparison → Operation
+  jal lw sw reti input output halt unknown : Operation
+
+operations : List Operation
+operations =
+    calculate add
+    ∷ calculate sub
+    ∷ calculate mac
+    ∷ calculate and
+    ∷ calculate or
+    ∷ calculate xor
+    ∷ calculate sll
+    ∷ calculate sra
+    ∷ calculate srl
+    ∷ branch beq
+    ∷ branch bne
+    ∷ branch blt
+    ∷ branch bgt
+    ∷ branch ble
+    ∷ branch bge
+    ∷ jal
+    ∷ lw
+    ∷ sw
+    ∷ reti
+    ∷ input
+    ∷ output
+    ∷ halt
+    ∷ []
+
+-- The operation of an opcode; above 21 there is none.
+unfoldable pub operationOf : ℕ → Operation
+unfolding operations
+operationOf n = getD operations n unknown
+
+-- The names, by opcode.
+abbrev pub operationNames : List (List ℕ)
+operationNames =
+    bytes "add"
+    ∷ bytes "sub"
+    ∷ bytes "mac"
+    ∷ bytes "and"
+    ∷ bytes "or"
+    ∷ bytes "xor"
+    ∷ bytes "sll"
+    ∷ bytes "sra"
+    ∷ bytes "srl"
+    ∷ bytes "beq"
+    ∷ bytes "bne"
+    ∷ bytes "blt"
+    ∷ bytes "bgt"
+    ∷ bytes "ble"
+    ∷ bytes "bge"
+    ∷ bytes "jal"
+    ∷ bytes "lw"
+    ∷ bytes "sw"
+    ∷ bytes "reti"
+    ∷ bytes "in"
+    ∷ bytes "out"
+    ∷ bytes "halt"
+    ∷ []
+
+abbrev pub operationName : ℕ → List ℕ
+operationName n = getD operationNames n []

@@ -1,0 +1,146 @@
+-- The names of the registers, and the I/O registers with their widths.
+use Prim.Native.Nat.{ℕ}
+use mathlib.Core.Bool.{Bool}
+use mathlib.Core.List.{List, [], _∷_}
+use lib.Dec.{ltb}
+use lib.ListN.{getD}
+use Rattle.text.specs.Bytes.{bytes}
+
+-- "Registers R0 to R15 ..: $zero $imm1 $imm2 $v0 $a0 $a1 $a2 $t0 $t1 $t2 $s0 $s1 $s2 $gp $sp $ra."
+abbrev pub registerNames : List (List ℕ)
+registerNames =
+    bytes "$zero"
+    ∷ bytes "$imm1"
+    ∷ bytes "$imm2"
+    ∷ bytes "$v0"
+    ∷ bytes "$a0"
+    ∷ bytes "$a1"
+    ∷ bytes "$a2"
+    ∷ bytes "$t0"
+    ∷ bytes "$t1"
+    ∷ bytes "$t2"
+    ∷ bytes "$s0"
+    ∷ bytes "$s1"
+    ∷ bytes "$s2"
+    ∷ bytes "$gp"
+    ∷ bytes "$sp"
+    ∷ bytes "$ra"
+    ∷ []
+
+abbrev pub registerName : ℕ → List ℕ
+registerName n = getD registerNames n []
+
+-- An I/O register: its name and its bits.
+pub record IoRegister : Type 0 where
+  pub name : List ℕ
+  pub bits : ℕ
+
+abbrev pub register : List ℕ → ℕ → IoRegister
+register name bits = record { name = name; bits = bits }
+
+-- A number that is not listed: no name, no bits.
+abbrev pub notListed : IoRegister
+notListed = record { name = []; bits = 0 }
+
+-- "I/O registers, number name (bits)": the number is the place in this list.
+abbrev pub ioRegisters : List IoRegister
+ioRegisters =
+    register (bytes "irq0enable") 1
+    ∷ register (bytes "irq1enable") 1
+    ∷ register (bytes "irq2enable") 1
+    ∷ register (bytes "irq0status") 1
+    ∷ register (bytes "irq1status") 1
+    ∷ register (bytes "irq2status") 1
+    ∷ register (bytes "irqhandler") 12
+    ∷ register (bytes "irqreturn") 12
+    ∷ register (bytes "clks") 32
+    ∷ register (bytes "leds") 32
+    ∷ register (bytes "display7seg") 32
+    ∷ register (bytes "timerenable") 1
+    ∷ register (bytes "timercurrent") 32
+    ∷ register (bytes "timermax") 32
+    ∷ register (bytes "diskcmd") 2
+    ∷ register (bytes "disksector") 7
+    ∷ register (bytes "diskbuffer") 12
+    ∷ register (bytes "diskstatus") 1
+    ∷ notListed
+    ∷ notListed
+    ∷ register (bytes "monitoraddr") 16
+    ∷ register (bytes "monitordata") 8
+    ∷ register (bytes "monitorcmd") 1
+    ∷ []
+
+abbrev pub ioName : ℕ → List ℕ
+ioName n = getD ioRegisters n notListed .name
+
+abbrev pub ioBits : ℕ → ℕ
+ioBits n = getD ioRegisters n notListed .bits
+
+-- "I/O number .. listed"
+abbrev pub isListed : ℕ → Bool
+isListed n = ltb 0 (ioBits n)
+
+-- ---- their numbers
+
+abbrev pub irq0enable : ℕ
+irq0enable = 0
+
+abbrev pub irq1enable : ℕ
+irq1enable = 1
+
+abbrev pub irq2enable : ℕ
+irq2enable = 2
+
+abbrev pub irq0status : ℕ
+irq0status = 3
+
+abbrev pub irq1status : ℕ
+irq1status = 4
+
+abbrev pub irq2status : ℕ
+irq2status = 5
+
+abbrev pub irqhandler : ℕ
+irqhandler = 6
+
+abbrev pub irqreturn : ℕ
+irqreturn = 7
+
+abbrev pub clks : ℕ
+clks = 8
+
+abbrev pub leds : ℕ
+leds = 9
+
+abbrev pub display7seg : ℕ
+display7seg = 10
+
+abbrev pub timerenable : ℕ
+timerenable = 11
+
+abbrev pub timercurrent : ℕ
+timercurrent = 12
+
+abbrev pub timermax : ℕ
+timermax = 13
+
+abbrev pub diskcmd : ℕ
+diskcmd = 14
+
+abbrev pub disksector : ℕ
+disksector = 15
+
+abbrev pub diskbuffer : ℕ
+diskbuffer = 16
+
+abbrev pub diskstatus : ℕ
+diskstatus = 17
+
+abbrev pub monitoraddr : ℕ
+monitoraddr = 20
+
+abbrev pub monitordata : ℕ
+monitordata = 21
+
+abbrev pub monitorcmd : ℕ
+monitorcmd = 22

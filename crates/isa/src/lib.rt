@@ -1,0 +1,15 @@
+// The 2023 instruction set: the instruction word's fields, and the names of operations, registers and I/O registers.
+pub mod io;
+pub mod names;
+pub mod word;
+
+// The fields of an instruction word, as numbers.
+pub struct Fields {
+    pub op: u32,
+    pub rd: usize,
+    pub rs: usize,
+    pub rt: usize,
+    pub rm: usize,
+    pub imm1: u32,
+    pub imm2: u32,
+}

@@ -5,6 +5,7 @@ use mathlib.Core.List.{List, [], _∷_}
 use lib.Dec.{ltb}
 use lib.ListN.{getD}
 use Rattle.text.specs.Bytes.{bytes}
+pub use Rattle.devices.specs.Numbers.{irq0status, irq1status, timerenable, timercurrent, timermax, diskcmd, diskstatus}
 
 -- "Registers R0 to R15 ..: $zero $imm1 $imm2 $v0 $a0 $a1 $a2 $t0 $t1 $t2 $s0 $s1 $s2 $gp $sp $ra."
 abbrev pub registerNames : List (List ℕ)
@@ -80,7 +81,7 @@ ioBits n = getD ioRegisters n notListed .bits
 abbrev pub isListed : ℕ → Bool
 isListed n = ltb 0 (ioBits n)
 
--- ---- their numbers
+-- ---- their numbers; those that the devices act on stand with the devices
 
 abbrev pub irq0enable : ℕ
 irq0enable = 0
@@ -90,12 +91,6 @@ irq1enable = 1
 
 abbrev pub irq2enable : ℕ
 irq2enable = 2
-
-abbrev pub irq0status : ℕ
-irq0status = 3
-
-abbrev pub irq1status : ℕ
-irq1status = 4
 
 abbrev pub irq2status : ℕ
 irq2status = 5
@@ -115,26 +110,11 @@ leds = 9
 abbrev pub display7seg : ℕ
 display7seg = 10
 
-abbrev pub timerenable : ℕ
-timerenable = 11
-
-abbrev pub timercurrent : ℕ
-timercurrent = 12
-
-abbrev pub timermax : ℕ
-timermax = 13
-
-abbrev pub diskcmd : ℕ
-diskcmd = 14
-
 abbrev pub disksector : ℕ
 disksector = 15
 
 abbrev pub diskbuffer : ℕ
 diskbuffer = 16
-
-abbrev pub diskstatus : ℕ
-diskstatus = 17
 
 abbrev pub monitoraddr : ℕ
 monitoraddr = 20

@@ -1,4 +1,11 @@
 // The I/O registers: their numbers, which are listed, and what each keeps of a value.
+pub use devices::numbers::DISKCMD;
+pub use devices::numbers::DISKSTATUS;
+pub use devices::numbers::IRQ0STATUS;
+pub use devices::numbers::IRQ1STATUS;
+pub use devices::numbers::TIMERCURRENT;
+pub use devices::numbers::TIMERENABLE;
+pub use devices::numbers::TIMERMAX;
 ghost use mathlib.Core.Path.{_≡_};
 ghost use Prim.Native.Nat.{_≤_, _<_};
 ghost use lib.ListN.{length};
@@ -13,10 +20,6 @@ pub const IRQ1ENABLE: usize = 1;
 
 pub const IRQ2ENABLE: usize = 2;
 
-pub const IRQ0STATUS: usize = 3;
-
-pub const IRQ1STATUS: usize = 4;
-
 pub const IRQ2STATUS: usize = 5;
 
 pub const IRQHANDLER: usize = 6;
@@ -29,19 +32,9 @@ pub const LEDS: usize = 9;
 
 pub const DISPLAY7SEG: usize = 10;
 
-pub const TIMERENABLE: usize = 11;
-
-pub const TIMERCURRENT: usize = 12;
-
-pub const TIMERMAX: usize = 13;
-
-pub const DISKCMD: usize = 14;
-
 pub const DISKSECTOR: usize = 15;
 
 pub const DISKBUFFER: usize = 16;
-
-pub const DISKSTATUS: usize = 17;
 
 pub const MONITORADDR: usize = 20;
 

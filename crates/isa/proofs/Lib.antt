@@ -1,3 +1,3 @@
 -- Laws that belong to no one function.
-pub mod NameLaws
+pub mod IoLaws
 pub mod WordLaws

@@ -39,17 +39,22 @@ unfolding operationOf
 fourteenth = refl
 
 last-name : operationName 21 ≡ bytes "halt"
+unfolding operationName
 last-name = refl
 
 last-register : registerName 15 ≡ bytes "$ra"
+unfolding registerName
 last-register = refl
 
 -- "9 leds .. (32)"; 18 and 19 are not listed, 22 is the last.
 leds-register : ioName leds ≡ bytes "leds"
+unfolding ioName
 leds-register = refl
 
 leds-bits : ioBits leds ≡ 32
+unfolding ioBits
 leds-bits = refl
 
 not-listed : map isListed (17 ∷ 18 ∷ 19 ∷ 20 ∷ 22 ∷ 23 ∷ 0xFFFFFFFF ∷ []) ≡ true ∷ false ∷ false ∷ true ∷ true ∷ false ∷ false ∷ []
+unfolding ioBits
 not-listed = refl

@@ -49,7 +49,7 @@ unfolding operations
 operationOf n = getD operations n unknown
 
 -- The names, by opcode.
-abbrev pub operationNames : List (List ℕ)
+unfoldable pub operationNames : List (List ℕ)
 operationNames =
     bytes "add"
     ∷ bytes "sub"
@@ -75,5 +75,6 @@ operationNames =
     ∷ bytes "halt"
     ∷ []
 
-abbrev pub operationName : ℕ → List ℕ
+unfoldable pub operationName : ℕ → List ℕ
+unfolding operationNames
 operationName n = getD operationNames n []

@@ -8,7 +8,7 @@ use Rattle.text.specs.Bytes.{bytes}
 pub use Rattle.devices.specs.Numbers.{irq0status, irq1status, timerenable, timercurrent, timermax, diskcmd, diskstatus}
 
 -- "Registers R0 to R15 ..: $zero $imm1 $imm2 $v0 $a0 $a1 $a2 $t0 $t1 $t2 $s0 $s1 $s2 $gp $sp $ra."
-abbrev pub registerNames : List (List ℕ)
+unfoldable pub registerNames : List (List ℕ)
 registerNames =
     bytes "$zero"
     ∷ bytes "$imm1"
@@ -28,7 +28,8 @@ registerNames =
     ∷ bytes "$ra"
     ∷ []
 
-abbrev pub registerName : ℕ → List ℕ
+unfoldable pub registerName : ℕ → List ℕ
+unfolding registerNames
 registerName n = getD registerNames n []
 
 -- An I/O register: its name and its bits.
@@ -44,7 +45,7 @@ abbrev pub notListed : IoRegister
 notListed = record { name = []; bits = 0 }
 
 -- "I/O registers, number name (bits)": the number is the place in this list.
-abbrev pub ioRegisters : List IoRegister
+unfoldable pub ioRegisters : List IoRegister
 ioRegisters =
     register (bytes "irq0enable") 1
     ∷ register (bytes "irq1enable") 1
@@ -71,10 +72,12 @@ ioRegisters =
     ∷ register (bytes "monitorcmd") 1
     ∷ []
 
-abbrev pub ioName : ℕ → List ℕ
+unfoldable pub ioName : ℕ → List ℕ
+unfolding ioRegisters
 ioName n = getD ioRegisters n notListed .name
 
-abbrev pub ioBits : ℕ → ℕ
+unfoldable pub ioBits : ℕ → ℕ
+unfolding ioRegisters
 ioBits n = getD ioRegisters n notListed .bits
 
 -- "I/O number .. listed"

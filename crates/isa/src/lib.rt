@@ -1,6 +1,5 @@
-// The 2023 instruction set: the instruction word's fields, and the names of operations, registers and I/O registers.
+// The 2023 instruction set: the instruction word's fields, and the I/O registers.
 pub mod io;
-pub mod names;
 pub mod word;
 
 // The fields of an instruction word, as numbers.

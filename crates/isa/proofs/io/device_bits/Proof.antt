@@ -8,24 +8,31 @@ use Rattle.isa.proofs.io.device_bits.Statement.{statement}
 use Rattle.isa.proofs.io.device_bits.Tie as tie
 
 returns : tie.Need-returns
+unfolding ioBits
 returns c = search needs
 
 returns-2 : tie.Need-returns-2
+unfolding ioBits
 returns-2 c = search needs
 
 returns-3 : tie.Need-returns-3
+unfolding ioBits
 returns-3 c = search needs
 
 returns-4 : tie.Need-returns-4
+unfolding ioBits
 returns-4 c = search needs
 
 returns-5 : tie.Need-returns-5
+unfolding ioBits
 returns-5 c = search needs
 
 returns-6 : tie.Need-returns-6
+unfolding ioBits
 returns-6 c = search needs
 
 returns-7 : tie.Need-returns-7
+unfolding ioBits
 returns-7 c = same-between ioBits 1 17 18 refl (c .before .args .n) (omega arith) (omega arith)
 
 pub device-bits-spec : {M : Type 1} → statement M

@@ -4,7 +4,7 @@ use native.Mathlib.Omega.{arith}
 use borrow.Author.Needs.{needs}
 use Rattle.text.proofs.Truth.{same-between}
 use Rattle.isa.specs.Registers.{ioBits}
-use Rattle.isa.proofs.NameLaws.{no-bits-above}
+use Rattle.isa.proofs.IoLaws.{no-bits-above}
 use Rattle.isa.proofs.io.io_bits.Statement.{statement}
 use Rattle.isa.proofs.io.io_bits.Tie as tie
 
@@ -15,24 +15,31 @@ monitor-bits-requires : tie.Need-monitor-bits-requires
 monitor-bits-requires c κs = search needs
 
 returns : tie.Need-returns
+unfolding ioBits
 returns c = same-between ioBits 1 0 6 refl (c .before .args .n) (omega arith) (omega arith)
 
 returns-2 : tie.Need-returns-2
+unfolding ioBits
 returns-2 c = same-between ioBits 12 6 8 refl (c .before .before .args .n) (omega arith) (omega arith)
 
 returns-3 : tie.Need-returns-3
+unfolding ioBits
 returns-3 c = same-between ioBits 32 8 11 refl (c .before .before .before .args .n) (omega arith) (omega arith)
 
 returns-4 : tie.Need-returns-4
+unfolding ioBits
 returns-4 c = search needs
 
 returns-5 : tie.Need-returns-5
+unfolding ioBits
 returns-5 c = search needs
 
 returns-6 : tie.Need-returns-6
+unfolding ioBits
 returns-6 c = same-between ioBits 0 18 20 refl (c .before .before .before .before .before .args .n) (omega arith) (omega arith)
 
 returns-7 : tie.Need-returns-7
+unfolding ioBits
 returns-7 c = sym (no-bits-above (c .before .before .before .before .before .before .args .n) (omega arith))
 
 pub io-bits-spec : {M : Type 1} → statement M

@@ -8,12 +8,15 @@ use Rattle.isa.proofs.io.monitor_bits.Statement.{statement}
 use Rattle.isa.proofs.io.monitor_bits.Tie as tie
 
 returns : tie.Need-returns
+unfolding ioBits
 returns c = search needs
 
 returns-2 : tie.Need-returns-2
+unfolding ioBits
 returns-2 c = search needs
 
 returns-3 : tie.Need-returns-3
+unfolding ioBits
 returns-3 c = same-between ioBits 1 22 23 refl (c .before .args .n) (omega arith) (omega arith)
 
 pub monitor-bits-spec : {M : Type 1} → statement M

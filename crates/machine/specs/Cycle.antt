@@ -1,0 +1,44 @@
+-- One cycle of the plain machine: its seven steps.
+use Prim.Native.Nat.{ℕ, zero, suc, _+_, _-_, _^_}
+use mathlib.Core.Bool.{Bool, not}
+use mathlib.Core.List.{List}
+use lib.Dec.{eqb}
+use Rattle.devices.specs.Timer.{timed}
+use Rattle.devices.specs.Disk.{leftAfter, diskAfter}
+use Rattle.isa.specs.Registers.{clks}
+use Rattle.machine.specs.Words.{plus}
+use Rattle.machine.specs.State.{Machine, ioAt, putIo, withIo, withLeft, withAge}
+use Rattle.machine.specs.Interrupts.{irq2Raised, interrupted}
+use Rattle.machine.specs.Execution.{fetchedAndExecuted}
+
+-- "5. Timer, if enabled now .."
+unfoldable pub timerStepped : Machine → Machine
+timerStepped m = withIo (timed (m .io)) m
+
+-- "6. If left was above 0 when the cycle began, it falls by one .."; `began` is left when the cycle began.
+unfoldable pub diskStepped : ℕ → Machine → Machine
+diskStepped began m = withLeft (leftAfter began (m .core .left)) (withIo (diskAfter began (m .core .left) (m .io)) m)
+
+-- "7. clks + 1, wrapping; age + 1."
+unfoldable pub counted : Machine → Machine
+counted m = withAge (m .core .age + 1) (putIo clks (plus (ioAt clks m) 1) m)
+
+-- The machine as step 3 finds it.
+unfoldable pub atFetch : List ℕ → Machine → Machine
+atFetch irq2 m = interrupted (irq2Raised irq2 m)
+
+-- The cycle.
+unfoldable pub cycle : List ℕ → List ℕ → Machine → Machine
+cycle image irq2 m = counted (diskStepped (m .core .left) (timerStepped (fetchedAndExecuted image (atFetch irq2 m))))
+
+-- "it has stopped when its status is not 0, is at the cycle limit when its age is 2^40-1, and makes no cycle after either."
+abbrev pub isStopped : Machine → Bool
+isStopped m = not (eqb (m .core .status) 0)
+
+abbrev pub isAtLimit : Machine → Bool
+isAtLimit m = eqb (m .core .age) (2 ^ 40 - 1)
+
+-- So many cycles, one after the other.
+unfoldable pub cycles : ℕ → List ℕ → List ℕ → Machine → Machine
+cycles zero image irq2 m = m
+cycles (suc n) image irq2 m = cycles n image irq2 (cycle image irq2 m)

@@ -1,0 +1,79 @@
+-- The plain machine's state: the record and the three memories.
+use Prim.Native.Nat.{ℕ, _-_}
+use mathlib.Core.Bool.{cond}
+use mathlib.Core.List.{List, _∷_}
+use lib.Dec.{ltb}
+use lib.ListN.{getD, set, replicate}
+use Rattle.machine.specs.declared.Core.{Core}
+
+-- "The record: status, handler flag, PC, age (cycles done, 40 bits), left (disk cycles to go), R3 to R15, the I/O registers": its scalars,
+-- its registers and its I/O registers by number; and the data memory, the disk and the frame.
+pub record Machine : Type 0 where
+  pub core : Core
+  pub regs : List ℕ
+  pub io : List ℕ
+  pub memory : List ℕ
+  pub disk : List ℕ
+  pub frame : List ℕ
+
+-- "Fresh means all zero."
+abbrev pub freshCore : Core
+freshCore = record { status = 0; handler = 0; pc = 0; age = 0; left = 0 }
+
+abbrev pub freshMachine : List ℕ → List ℕ → List ℕ → Machine
+freshMachine memory disk frame =
+    record { core = freshCore; regs = replicate 13 0; io = replicate 23 0; memory = memory; disk = disk; frame = frame }
+
+-- ---- one part changed
+
+abbrev pub withStatus : ℕ → Machine → Machine
+withStatus x m =
+    record { core = record { status = x; handler = m .core .handler; pc = m .core .pc; age = m .core .age; left = m .core .left }; regs = m .regs; io = m .io; memory = m .memory; disk = m .disk; frame = m .frame }
+
+abbrev pub withHandler : ℕ → Machine → Machine
+withHandler x m =
+    record { core = record { status = m .core .status; handler = x; pc = m .core .pc; age = m .core .age; left = m .core .left }; regs = m .regs; io = m .io; memory = m .memory; disk = m .disk; frame = m .frame }
+
+abbrev pub withPc : ℕ → Machine → Machine
+withPc x m =
+    record { core = record { status = m .core .status; handler = m .core .handler; pc = x; age = m .core .age; left = m .core .left }; regs = m .regs; io = m .io; memory = m .memory; disk = m .disk; frame = m .frame }
+
+abbrev pub withAge : ℕ → Machine → Machine
+withAge x m =
+    record { core = record { status = m .core .status; handler = m .core .handler; pc = m .core .pc; age = x; left = m .core .left }; regs = m .regs; io = m .io; memory = m .memory; disk = m .disk; frame = m .frame }
+
+abbrev pub withLeft : ℕ → Machine → Machine
+withLeft x m =
+    record { core = record { status = m .core .status; handler = m .core .handler; pc = m .core .pc; age = m .core .age; left = x }; regs = m .regs; io = m .io; memory = m .memory; disk = m .disk; frame = m .frame }
+
+abbrev pub withRegs : List ℕ → Machine → Machine
+withRegs x m = record { core = m .core; regs = x; io = m .io; memory = m .memory; disk = m .disk; frame = m .frame }
+
+abbrev pub withIo : List ℕ → Machine → Machine
+withIo x m = record { core = m .core; regs = m .regs; io = x; memory = m .memory; disk = m .disk; frame = m .frame }
+
+abbrev pub withMemory : List ℕ → Machine → Machine
+withMemory x m = record { core = m .core; regs = m .regs; io = m .io; memory = x; disk = m .disk; frame = m .frame }
+
+abbrev pub withDisk : List ℕ → Machine → Machine
+withDisk x m = record { core = m .core; regs = m .regs; io = m .io; memory = m .memory; disk = x; frame = m .frame }
+
+abbrev pub withFrame : List ℕ → Machine → Machine
+withFrame x m = record { core = m .core; regs = m .regs; io = m .io; memory = m .memory; disk = m .disk; frame = x }
+
+-- ---- registers
+
+-- R0 to R15: "R0 is 0. R1 and R2 are the two immediates."
+abbrev pub registers : ℕ → ℕ → Machine → List ℕ
+registers imm1 imm2 m = 0 ∷ imm1 ∷ imm2 ∷ m .regs
+
+-- R[n] becomes x. "Writes to these three change nothing."
+abbrev pub putRegister : ℕ → ℕ → Machine → Machine
+putRegister n x m = withRegs (cond (ltb n 3) (m .regs) (set (m .regs) (n - 3) x)) m
+
+-- IO[n], and IO[n] set to x.
+abbrev pub ioAt : ℕ → Machine → ℕ
+ioAt n m = getD (m .io) n 0
+
+abbrev pub putIo : ℕ → ℕ → Machine → Machine
+putIo n x m = withIo (set (m .io) n x) m

@@ -1,0 +1,17 @@
+// The record of the machine.
+
+// The record's scalars: status, handler flag, PC, age (cycles done) and left (disk cycles to go).
+pub struct Core {
+    pub status: u32,
+    pub handler: u32,
+    pub pc: u32,
+    pub age: u64,
+    pub left: u32,
+}
+
+// The record: the scalars, R3 to R15, and the I/O registers by number (18, 19 and 22 hold 0).
+pub struct Record {
+    pub core: Core,
+    pub regs: [u32; 13],
+    pub io: [u32; 23],
+}

@@ -1,15 +1,17 @@
 -- One cycle of the plain machine: its seven steps.
-use Prim.Native.Nat.{ℕ, zero, suc, _+_, _-_, _^_}
-use mathlib.Core.Bool.{Bool, not}
+use Prim.Native.Nat.{ℕ, zero, suc, _+_, _-_, _%_, _^_}
+use mathlib.Core.Bool.{Bool, true, false, not, _&&_}
 use mathlib.Core.List.{List}
-use lib.Dec.{eqb}
+use lib.Dec.{eqb, leb}
 use Rattle.devices.specs.Timer.{timed}
 use Rattle.devices.specs.Disk.{leftAfter, diskAfter}
-use Rattle.isa.specs.Registers.{clks}
+use Rattle.isa.specs.Word.{fieldsOf}
+use Rattle.isa.specs.Operations.{Operation, operationOf, calculate, branch, jal, lw, sw, reti, input, output, halt, unknown}
+use Rattle.isa.specs.Registers.{clks, diskcmd, diskbuffer}
 use Rattle.machine.specs.Words.{plus}
 use Rattle.machine.specs.State.{Machine, ioAt, putIo, withIo, withLeft, withAge}
 use Rattle.machine.specs.Interrupts.{irq2Raised, interrupted}
-use Rattle.machine.specs.Execution.{fetchedAndExecuted}
+use Rattle.machine.specs.Execution.{Operands, fetched, operandsOf, address, isFree, isReadOrWrite, fetchedAndExecuted}
 
 -- "5. Timer, if enabled now .."
 unfoldable pub timerStepped : Machine → Machine
@@ -37,6 +39,29 @@ isStopped m = not (eqb (m .core .status) 0)
 
 abbrev pub isAtLimit : Machine → Bool
 isAtLimit m = eqb (m .core .age) (2 ^ 40 - 1)
+
+-- "A disk command is accepted in cycle c when an out in it gives diskcmd low bits 1 or 2, diskstatus being 0 and diskbuffer at most 3968": of
+-- an instruction that finds the machine so at step 3, and of the cycle that m makes next.
+abbrev pub isOutput : Operation → Bool
+isOutput (calculate k) = false
+isOutput (branch k) = false
+isOutput jal = false
+isOutput lw = false
+isOutput sw = false
+isOutput reti = false
+isOutput input = false
+isOutput output = true
+isOutput halt = false
+isOutput unknown = false
+
+unfoldable pub isCommand : Operation → Operands → Machine → Bool
+isCommand k o m = isOutput k && eqb (address o) diskcmd && isReadOrWrite (o .rm % 4) && isFree m && leb (ioAt diskbuffer m) 3968
+
+unfoldable pub acceptsCommand : List ℕ → List ℕ → Machine → Bool
+acceptsCommand image irq2 m =
+    let s = atFetch irq2 m in
+    let f = fieldsOf (fetched image s) in
+    isCommand (operationOf (f .op)) (operandsOf f s) s
 
 -- So many cycles, one after the other.
 unfoldable pub cycles : ℕ → List ℕ → List ℕ → Machine → Machine

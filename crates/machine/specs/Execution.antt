@@ -1,6 +1,6 @@
 -- Steps 3 and 4 of a cycle: fetch and execute.
 use Prim.Native.Nat.{ℕ, _+_, _*_, _%_, _^_}
-use mathlib.Core.Bool.{Bool, true, false, cond, _&&_}
+use mathlib.Core.Bool.{Bool, cond, _&&_}
 use mathlib.Core.List.{List}
 use lib.Dec.{eqb, ltb, leb}
 use lib.ListN.{getD, set, take, drop}
@@ -69,6 +69,10 @@ abbrev pub copied : ℕ → Machine → Machine
 copied command m =
     cond (eqb command 1) (withMemory (put (m .memory) (ioAt diskbuffer m) (sector m)) m) (withDisk (put (m .disk) (128 * ioAt disksector m) (buffer m)) m)
 
+-- "1 (read) or 2 (write)"
+abbrev pub isReadOrWrite : ℕ → Bool
+isReadOrWrite low = leb 1 low && leb low 2
+
 -- "left = 1024, diskstatus = 1", and diskcmd holds the command.
 abbrev pub begun : ℕ → Machine → Machine
 begun command m = withLeft 1024 (putIo diskstatus 1 (putIo diskcmd command (copied command m)))
@@ -78,7 +82,7 @@ begun command m = withLeft 1024 (putIo diskstatus 1 (putIo diskcmd command (copi
 unfoldable pub commanded : ℕ → Machine → Machine
 commanded low m =
     cond (isFree m)
-    (cond (leb 1 low && leb low 2)
+    (cond (isReadOrWrite low)
     (cond (leb (ioAt diskbuffer m) 3968) (onward (begun low m)) (ended 5 m))
     (onward (putIo diskcmd 0 m)))
     (onward m)

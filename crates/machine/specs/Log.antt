@@ -1,12 +1,11 @@
 -- The log lines of a cycle. "Lines end in LF, hex in capitals, one space between fields .. The letter stands first."
 use Prim.Native.Nat.{ℕ, _%_, _^_}
-use mathlib.Core.Bool.{Bool, cond, _&&_, not}
+use mathlib.Core.Bool.{cond, _&&_, not}
 use mathlib.Core.List.{List, [], _∷_, _++_}
 use lib.Dec.{eqb}
 use Rattle.text.specs.Bytes.{bytes}
 use Rattle.text.specs.Numerals.{digits, decimal}
 use Rattle.text.specs.Lines.{LF}
-use Rattle.isa.specs.declared.Fields.{Fields}
 use Rattle.isa.specs.Word.{fieldsOf}
 use Rattle.isa.specs.Operations.{Operation, operationOf, calculate, branch, jal, lw, sw, reti, input, output, halt, unknown}
 use Rattle.isa.specs.Registers.{isListed, ioName, leds, display7seg}

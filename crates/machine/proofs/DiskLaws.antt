@@ -1,0 +1,102 @@
+-- A disk command and its 1,024 cycles. Assumes nothing.
+use Prim.Native.Nat.{ℕ, _-_, _%_, _<_}
+use mathlib.Core.Path.{_≡_, refl, _∙_, ap}
+use mathlib.Core.Bool.{Bool, true, false, cond, _&&_, false≢true}
+use mathlib.Core.List.{List}
+use lib.Dec.{eqb, leb, ltb}
+use borrow.Author.Tests.{eqb-true, lt-ltb}
+use Rattle.text.proofs.Truth.{and-left, and-right}
+use Rattle.devices.specs.Disk.{leftAfter}
+use Rattle.isa.specs.Word.{fieldsOf}
+use Rattle.isa.specs.Operations.{Operation, operationOf, calculate, branch, jal, lw, sw, reti, input, output, halt, unknown}
+use Rattle.isa.specs.Registers.{isListed, ioBits, diskcmd, diskstatus, diskbuffer, monitorcmd}
+use Rattle.machine.specs.Words.{holds}
+use Rattle.machine.specs.State.{Machine, ioAt}
+use Rattle.machine.specs.Interrupts.{isIn, isAsked, irq2Raised, interrupted}
+use Rattle.machine.specs.Execution.{Operands, fetched, operandsOf, address, isFree, isReadOrWrite, onward, commanded, painted, outputted, executed, fetchedAndExecuted}
+use Rattle.machine.specs.Cycle.{timerStepped, diskStepped, counted, atFetch, cycle, isCommand, acceptsCommand}
+
+-- s has the cycles to go that m has; so has a choice between two that do.
+record KeepsLeft (m s : Machine) : Type 0 where
+  same : s .core .left ≡ m .core .left
+
+either : (m : Machine) (t : Bool) {a b : Machine} → KeepsLeft m a → KeepsLeft m b → KeepsLeft m (cond t a b)
+either m true p q = p
+either m false p q = q
+
+and-onward : (m s : Machine) → KeepsLeft m s → KeepsLeft m (onward s)
+and-onward m s k = record { same = k .same }
+
+-- Steps 1 and 2 don't change left.
+left-at-fetch : (irq2 : List ℕ) (m : Machine) → KeepsLeft m (atFetch irq2 m)
+unfolding atFetch interrupted irq2Raised
+left-at-fetch irq2 m =
+    let entry = either (irq2Raised irq2 m) (isAsked (irq2Raised irq2 m) && eqb (irq2Raised irq2 m .core .handler) 0) (record { same = refl }) (record { same = refl }) in
+    let raised = either m (isIn (m .core .age) irq2) (record { same = refl }) (record { same = refl }) in
+    record { same = entry .same ∙ raised .same }
+
+-- While the disk is busy no instruction changes left.
+left-kept : (k : Operation) (o : Operands) (m : Machine) → isFree m ≡ false → KeepsLeft m (executed k o m)
+unfolding executed outputted commanded painted
+left-kept (calculate k) o m busy = record { same = refl }
+left-kept (branch k) o m busy = either m (holds k (o .rs) (o .rt)) (record { same = refl }) (record { same = refl })
+left-kept jal o m busy = record { same = refl }
+left-kept lw o m busy = either m (ltb (address o) 4096) (record { same = refl }) (record { same = refl })
+left-kept sw o m busy = either m (ltb (address o) 4096) (record { same = refl }) (record { same = refl })
+left-kept reti o m busy = record { same = refl }
+left-kept input o m busy = either m (isListed (address o)) (record { same = refl }) (record { same = refl })
+left-kept output o m busy =
+    either m (isListed (address o))
+    (either m (eqb (address o) diskcmd)
+    (record { same = rw busy })
+    (and-onward m _
+    (either m (eqb (address o) diskstatus) (record { same = refl })
+    (either m (eqb (address o) monitorcmd) (either m (eqb (o .rm % 2) 1) (record { same = refl }) (record { same = refl })) (record { same = refl })))))
+    (record { same = refl })
+left-kept halt o m busy = record { same = refl }
+left-kept unknown o m busy = record { same = refl }
+
+-- A command that is accepted leaves 1,024 cycles to go.
+command-left : (k : Operation) (o : Operands) (m : Machine) → isCommand k o m ≡ true → executed k o m .core .left ≡ 1024
+unfolding isCommand executed outputted commanded ioBits
+command-left (calculate k) o m h = absurd (false≢true h)
+command-left (branch k) o m h = absurd (false≢true h)
+command-left jal o m h = absurd (false≢true h)
+command-left lw o m h = absurd (false≢true h)
+command-left sw o m h = absurd (false≢true h)
+command-left reti o m h = absurd (false≢true h)
+command-left input o m h = absurd (false≢true h)
+command-left output o m h =
+    let a = eqb (address o) diskcmd in
+    let b = isReadOrWrite (o .rm % 4) in
+    let f = isFree m in
+    let buffer = and-right (a && b && f) (leb (ioAt diskbuffer m) 3968) h in
+    let three = and-left (a && b && f) (leb (ioAt diskbuffer m) 3968) h in
+    let two = and-left (a && b) f three in
+    let at = eqb-true (address o) diskcmd (and-left a b two) in
+    rw (at, and-right (a && b) f three, and-right a b two, buffer)
+command-left halt o m h = absurd (false≢true h)
+command-left unknown o m h = absurd (false≢true h)
+
+-- ---- over a whole cycle
+
+-- "left = 1024": a cycle that accepts a command while no cycles were to go.
+pub accepted-left : (image irq2 : List ℕ) (m : Machine) → m .core .left ≡ 0 → acceptsCommand image irq2 m ≡ true → cycle image irq2 m .core .left ≡ 1024
+unfolding acceptsCommand cycle counted diskStepped timerStepped fetchedAndExecuted
+accepted-left image irq2 m idle h =
+    let s = atFetch irq2 m in
+    let f = fieldsOf (fetched image s) in
+    let k = operationOf (f .op) in
+    let o = operandsOf f s in
+    ap (λ (n : ℕ). leftAfter n (executed k o s .core .left)) idle ∙ command-left k o s h
+
+-- Each later cycle takes one: a cycle that finds the disk busy at step 3.
+pub busy-left : (image irq2 : List ℕ) (m : Machine) → 0 < m .core .left → isFree (atFetch irq2 m) ≡ false → cycle image irq2 m .core .left ≡ m .core .left - 1
+unfolding cycle counted diskStepped timerStepped fetchedAndExecuted
+busy-left image irq2 m going busy =
+    let s = atFetch irq2 m in
+    let f = fieldsOf (fetched image s) in
+    let k = operationOf (f .op) in
+    let o = operandsOf f s in
+    let unchanged = left-kept k o s busy .same ∙ left-at-fetch irq2 m .same in
+    rw (lt-ltb 0 (m .core .left) going) (ap (λ (n : ℕ). n - 1) unchanged)

@@ -1,0 +1,2 @@
+-- Laws of the plain machine.
+pub mod DiskLaws

@@ -1,2 +1,3 @@
 -- Laws of the plain machine.
 pub mod DiskLaws
+pub mod LineLaws

@@ -1,3 +1,4 @@
 -- Laws of the plain machine.
 pub mod DiskLaws
 pub mod LineLaws
+pub mod Irq2Laws

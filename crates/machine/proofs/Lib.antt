@@ -2,3 +2,4 @@
 pub mod DiskLaws
 pub mod LineLaws
 pub mod Irq2Laws
+pub mod SoundLaws

@@ -13,11 +13,12 @@ use Rattle.machine.specs.declared.Core.{Core}
 abbrev pub keptBits : ℕ → ℕ
 keptBits n = cond (eqb n monitorcmd) 0 (ioBits n)
 
-pub record SoundCore (c : Core) : Type 0 where
+-- The scalars, the age below a limit.
+pub record SoundCore (limit : ℕ) (c : Core) : Type 0 where
   pub status : c .status ≤ 5
   pub handler : c .handler < 2
   pub pc : c .pc < 2 ^ 12
-  pub age : c .age < 2 ^ 40
+  pub age : c .age < limit
   pub left : c .left ≤ 1024
 
 -- The disk is busy, with a command and cycles to go, or free, with neither.
@@ -25,10 +26,15 @@ pub record SoundDisk (left : ℕ) (io : List ℕ) : Type 0 where
   pub busy : 0 < left → (getD io diskstatus 0 ≡ 1) × (1 ≤ getD io diskcmd 0) × (getD io diskcmd 0 ≤ 2)
   pub free : left ≡ 0 → (getD io diskstatus 0 ≡ 0) × (getD io diskcmd 0 ≡ 0)
 
-pub record Sound (c : Core) (regs io : List ℕ) : Type 0 where
-  pub core : SoundCore c
+-- All fields, the age below a limit.
+pub record SoundTo (limit : ℕ) (c : Core) (regs io : List ℕ) : Type 0 where
+  pub core : SoundCore limit c
   pub thirteen : length regs ≡ 13
   pub registers : (n : ℕ) → getD regs n 0 < 2 ^ 32
   pub all : length io ≡ 23
   pub fitting : (n : ℕ) → getD io n 0 < 2 ^ keptBits n
   pub disk : SoundDisk (c .left) io
+
+-- A sound record: "age (cycles done, 40 bits)".
+abbrev pub Sound : Core → List ℕ → List ℕ → Type 0
+Sound c regs io = SoundTo (2 ^ 40) c regs io

@@ -14,11 +14,11 @@ use Rattle.machine.specs.Words.{holds}
 use Rattle.machine.specs.State.{Machine, ioAt}
 use Rattle.machine.specs.Interrupts.{isIn, isAsked, irq2Raised, interrupted}
 use Rattle.machine.specs.Execution.{Operands, fetched, operandsOf, address, isFree, isReadOrWrite, onward, commanded, painted, outputted, executed, fetchedAndExecuted}
-use Rattle.machine.specs.Cycle.{timerStepped, diskStepped, counted, atFetch, cycle, isCommand, acceptsCommand}
+use Rattle.machine.specs.Cycle.{isOutput, timerStepped, diskStepped, counted, atFetch, cycle, isCommand, acceptsCommand}
 
 -- s has the cycles to go that m has; so has a choice between two that do.
-record KeepsLeft (m s : Machine) : Type 0 where
-  same : s .core .left ≡ m .core .left
+pub record KeepsLeft (m s : Machine) : Type 0 where
+  pub same : s .core .left ≡ m .core .left
 
 either : (m : Machine) (t : Bool) {a b : Machine} → KeepsLeft m a → KeepsLeft m b → KeepsLeft m (cond t a b)
 either m true p q = p
@@ -28,7 +28,7 @@ and-onward : (m s : Machine) → KeepsLeft m s → KeepsLeft m (onward s)
 and-onward m s k = record { same = k .same }
 
 -- Steps 1 and 2 don't change left.
-left-at-fetch : (irq2 : List ℕ) (m : Machine) → KeepsLeft m (atFetch irq2 m)
+pub left-at-fetch : (irq2 : List ℕ) (m : Machine) → KeepsLeft m (atFetch irq2 m)
 unfolding atFetch interrupted irq2Raised
 left-at-fetch irq2 m =
     let entry = either (irq2Raised irq2 m) (isAsked (irq2Raised irq2 m) && eqb (irq2Raised irq2 m .core .handler) 0) (record { same = refl }) (record { same = refl }) in
@@ -77,6 +77,13 @@ command-left output o m h =
     rw (at, and-right (a && b) f three, and-right a b two, buffer)
 command-left halt o m h = absurd (false≢true h)
 command-left unknown o m h = absurd (false≢true h)
+
+-- It finds the disk free.
+pub command-free : (k : Operation) (o : Operands) (m : Machine) → isCommand k o m ≡ true → isFree m ≡ true
+unfolding isCommand
+command-free k o m h =
+    let a = isOutput k && eqb (address o) diskcmd && isReadOrWrite (o .rm % 4) in
+    and-right a (isFree m) (and-left (a && isFree m) (leb (ioAt diskbuffer m) 3968) h)
 
 -- ---- over a whole cycle
 

@@ -2,4 +2,5 @@
 pub mod DiskLaws
 pub mod LineLaws
 pub mod Irq2Laws
+pub mod SoundParts
 pub mod SoundLaws

@@ -1,131 +1,29 @@
 -- A sound record stays sound over a cycle. Assumes nothing.
-use Prim.Native.Nat.{ℕ, zero, suc, _+_, _-_, _*_, _/_, _%_, _^_, _≤_, _<_, zero-le}
-use mathlib.Core.Path.{_≡_, refl, sym, _∙_, ap}
+use Prim.Native.Nat.{ℕ, zero, suc, _+_, _-_, _%_, _^_, _≤_, _<_}
+use mathlib.Core.Path.{_≡_, refl, _∙_}
 use mathlib.Core.Bool.{Bool, true, false, cond, _&&_, not}
-use mathlib.Core.List.{List, [], _∷_}
-use native.Mathlib.Nat.{mod-lt, le-trans, lt-of-lt-of-le, lt-of-le-of-lt, div-le-self, pow-le-pow-right, one-le-pow, add-zero}
+use mathlib.Core.List.{List}
+use native.Mathlib.Nat.{mod-lt, lt-of-lt-of-le}
 use native.Mathlib.Omega.{arith}
-use lib.ListN.{length, getD, set, length-set, List·getD-eq-default}
-use lib.Bits.{and-lt, or-lt, xor-lt}
+use lib.ListN.{length, getD, set, length-set}
 use lib.Dec.{eqb, leb, ltb}
-use lib.Signed.{shrZ, mag-shr}
-use mir.Syntax.{w32}
-use mir.Val.{toZ, ofZ}
-use mir.Facts.{fits-ofZ, sfits-toZ}
-use lib.Seq.{getD-set-same, getD-set-other, set-out}
-use borrow.Author.Tests.{eqb-true, eqb-false, leb-true, leb-false, ltb-true, ltb-false, lt-ltb, ne-eqb}
+use lib.Seq.{getD-set-same, getD-set-other}
+use borrow.Author.Tests.{eqb-true, eqb-false, leb-true, ne-eqb}
 use Rattle.text.proofs.Truth.{and-left, and-right, below}
-use Rattle.isa.specs.Operations.{Calculation, add, sub, mac, and, or, xor, sll, sra, srl, Operation, operationOf, calculate, branch, jal, lw, sw, reti, input, output, halt, unknown}
+use Rattle.isa.specs.Operations.{and, Operation, operationOf, calculate, branch, jal, lw, sw, reti, input, output, halt, unknown}
 use Rattle.isa.specs.Registers.{ioBits, isListed, irq0status, irq1status, irq2status, irqhandler, irqreturn, clks, timerenable, timercurrent, timermax, diskcmd, diskbuffer, diskstatus, monitorcmd}
 use Rattle.devices.specs.Timer.{timed}
-use Rattle.devices.specs.Disk.{freed, leftAfter, diskAfter}
+use Rattle.devices.specs.Disk.{freed}
 use Rattle.devices.proofs.DiskLaws.{length-freed, free-disk}
 use Rattle.isa.specs.Word.{signExtended, fieldsOf}
-use Rattle.isa.proofs.IoLaws.{no-bits-above}
-use Rattle.machine.specs.declared.Core.{Core}
-use Rattle.machine.specs.Words.{calculated, holds, plus}
-use Rattle.machine.specs.State.{Machine, registers, putRegister, ioAt, putIo, withPc, withStatus, withHandler, withLeft, withRegs, withIo, withAge}
+use Rattle.machine.specs.Words.{holds, plus}
+use Rattle.machine.specs.State.{Machine, registers, putRegister, ioAt, putIo, withPc, withStatus, withHandler, withLeft, withRegs, withIo}
 use Rattle.machine.specs.Interrupts.{isIn, isAsked, irq2Raised, interrupted}
 use Rattle.machine.specs.Execution.{Operands, fetched, operandsOf, address, isFree, isReadOrWrite, onward, jumped, ended, copied, begun, commanded, painted, outputted, executed, fetchedAndExecuted}
-use Rattle.machine.specs.Cycle.{atFetch, timerStepped, diskStepped, counted, cycle}
-use Rattle.machine.specs.Soundness.{keptBits, SoundCore, SoundDisk, SoundTo, Sound}
-
--- ---- numbers
-
-power-pos : (k : ℕ) → 0 < 2 ^ k
-power-pos k = one-le-pow k 2 (omega arith)
-
--- ---- one I/O register set
-
-module _ (io : List ℕ) (n x : ℕ) where
-  -- What an I/O register holds after a store: x at n, as before elsewhere.
-  holds-after : (P : ℕ → ℕ → Type 0) → ((k : ℕ) → P k (getD io k 0)) → P n x → (k : ℕ) → P k (getD (set io n x) k 0)
-  holds-after P old new k = go (eqb k n) refl (ltb n (length io)) refl
-    where
-      go : (t : Bool) → eqb k n ≡ t → (u : Bool) → ltb n (length io) ≡ u → P k (getD (set io n x) k 0)
-      go false e u r = rw (getD-set-other io n k x 0 (eqb-false k n e)) (old k)
-      go true e true r = rw (eqb-true k n e, getD-set-same io n x 0 (ltb-true n (length io) r)) new
-      go true e false r = rw (set-out io n x (ltb-false n (length io) r)) (old k)
-
-module _ (limit : ℕ) (c : Core) (regs io : List ℕ) (s : SoundTo limit c regs io) where
-  -- A register that is not the disk's takes a value that fits.
-  sound-io : (n x : ℕ) → x < 2 ^ keptBits n → (n ≡ diskcmd → ⊥) → (n ≡ diskstatus → ⊥) → SoundTo limit c regs (set io n x)
-  sound-io n x fits a b =
-      record
-        { core = s .core
-        ; thirteen = s .thirteen
-        ; registers = s .registers
-        ; all = length-set io n x ∙ s .all
-        ; fitting = holds-after io n x (λ k v. v < 2 ^ keptBits k) (s .fitting) fits
-        ; disk =
-            record
-              { busy = rw (getD-set-other io n diskstatus x 0 (λ e. b (sym e)), getD-set-other io n diskcmd x 0 (λ e. a (sym e))) (s .disk .busy)
-              ; free = rw (getD-set-other io n diskstatus x 0 (λ e. b (sym e)), getD-set-other io n diskcmd x 0 (λ e. a (sym e))) (s .disk .free)
-              }
-        }
-
-  -- The scalars may change, but for left.
-  sound-core : (d : Core) → SoundCore limit d → d .left ≡ c .left → SoundTo limit d regs io
-  sound-core d k e =
-      record { core = k; thirteen = s .thirteen; registers = s .registers; all = s .all; fitting = s .fitting; disk = rw e (s .disk) }
-
-  -- A register takes a word.
-  sound-set : (n x : ℕ) → x < 2 ^ 32 → SoundTo limit c (set regs n x) io
-  sound-set n x fits =
-      record
-        { core = s .core
-        ; thirteen = length-set regs n x ∙ s .thirteen
-        ; registers = holds-after regs n x (λ k v. v < 2 ^ 32) (s .registers) fits
-        ; all = s .all
-        ; fitting = s .fitting
-        ; disk = s .disk
-        }
-
--- The limit of the age, changed with the scalars.
-sound-core-to : {limit below : ℕ} {c : Core} {regs io : List ℕ} → SoundTo limit c regs io → SoundCore below c → SoundTo below c regs io
-sound-core-to s k = record { core = k; thirteen = s .thirteen; registers = s .registers; all = s .all; fitting = s .fitting; disk = s .disk }
-
--- ---- words
-
-bits-le : (n : ℕ) → ioBits n ≤ 32
-unfolding ioBits
-bits-le n = go (leb n 22) refl
-  where
-    go : (t : Bool) → leb n 22 ≡ t → ioBits n ≤ 32
-    go true e = let low = leb-true n 22 e in leb-true _ _ (below (λ k. leb (ioBits k) 32) 23 refl n (omega arith))
-    go false e = let high = leb-false n 22 e in rw (no-bits-above n (omega arith)) (omega arith)
-
-kept-le : (n : ℕ) → 2 ^ keptBits n ≤ 2 ^ 32
-kept-le n = go (eqb n monitorcmd)
-  where
-    go : (t : Bool) → 2 ^ cond t 0 (ioBits n) ≤ 2 ^ 32
-    go true = omega arith
-    go false = pow-le-pow-right {n = 2} (omega arith) (bits-le n)
-
-wrapped : (x : ℕ) → x % 2 ^ 32 < 2 ^ 32
-wrapped x = omega arith
-
-sign-lt : (i : ℕ) → i < 2 ^ 12 → signExtended i < 2 ^ 32
-sign-lt i h = go (ltb i (2 ^ 11))
-  where
-    go : (t : Bool) → cond t i (2 ^ 32 - 2 ^ 12 + i) < 2 ^ 32
-    go true = omega arith
-    go false = omega arith
-
-shifted : (x m : ℕ) → x < 2 ^ 32 → ofZ w32 (shrZ (toZ w32 x) m) < 2 ^ 32
-shifted x m h =
-    fits-ofZ {w = w32} {z = shrZ (toZ w32 x) m} (record { sfits = lt-of-le-of-lt (mag-shr (toZ w32 x) m) (sfits-toZ {w = w32} {n = x} (record { fits = h }) .sfits) }) .fits
-
-calculated-lt : (k : Calculation) (x y z : ℕ) → x < 2 ^ 32 → y < 2 ^ 32 → z < 2 ^ 32 → calculated k x y z < 2 ^ 32
-calculated-lt add x y z hx hy hz = wrapped _
-calculated-lt sub x y z hx hy hz = wrapped _
-calculated-lt mac x y z hx hy hz = wrapped _
-calculated-lt and x y z hx hy hz = and-lt 32 _ z (and-lt 32 x y hx hy) hz
-calculated-lt or x y z hx hy hz = or-lt 32 _ z (or-lt 32 x y hx hy) hz
-calculated-lt xor x y z hx hy hz = xor-lt 32 _ z (xor-lt 32 x y hx hy) hz
-calculated-lt sll x y z hx hy hz = wrapped _
-calculated-lt sra x y z hx hy hz = shifted x (2 ^ (y % 32)) hx
-calculated-lt srl x y z hx hy hz = lt-of-le-of-lt (div-le-self x (2 ^ (y % 32))) hx
+use Rattle.machine.specs.Cycle.{acceptsCommand, atFetch, timerStepped, diskStepped, counted, cycle}
+use Rattle.machine.specs.Soundness.{keptBits, SoundTo}
+use Rattle.machine.proofs.SoundParts.{power-pos, holds-after, sound-io, sound-core, sound-set, sound-core-to, kept-le, wrapped, sign-lt, calculated-lt}
+use Rattle.machine.proofs.DiskLaws.{command-free, left-at-fetch, accepted-left, busy-left}
 
 -- ---- the machine
 
@@ -141,29 +39,29 @@ module _ (limit : ℕ) where
   pc-set : (m : Machine) (x : ℕ) → x < 2 ^ 12 → SoundMachine limit m → SoundMachine limit (withPc x m)
   pc-set m x h s =
       let k = s .record-is .core in
-      record
-        { record-is =
+      record {
+        record-is =
             sound-core limit (m .core) (m .regs) (m .io) (s .record-is) _
-            (record { status = k .status; handler = k .handler; pc = h; age = k .age; left = k .left }) refl
-        }
+            (record { status = k .status; handler = k .handler; pc = h; age = k .age; left = k .left }) refl;
+      }
 
   status-set : (m : Machine) (x : ℕ) → x ≤ 5 → SoundMachine limit m → SoundMachine limit (withStatus x m)
   status-set m x h s =
       let k = s .record-is .core in
-      record
-        { record-is =
+      record {
+        record-is =
             sound-core limit (m .core) (m .regs) (m .io) (s .record-is) _
-            (record { status = h; handler = k .handler; pc = k .pc; age = k .age; left = k .left }) refl
-        }
+            (record { status = h; handler = k .handler; pc = k .pc; age = k .age; left = k .left }) refl;
+      }
 
   handler-set : (m : Machine) (x : ℕ) → x < 2 → SoundMachine limit m → SoundMachine limit (withHandler x m)
   handler-set m x h s =
       let k = s .record-is .core in
-      record
-        { record-is =
+      record {
+        record-is =
             sound-core limit (m .core) (m .regs) (m .io) (s .record-is) _
-            (record { status = k .status; handler = h; pc = k .pc; age = k .age; left = k .left }) refl
-        }
+            (record { status = k .status; handler = h; pc = k .pc; age = k .age; left = k .left }) refl;
+      }
 
   register-put : (m : Machine) (n x : ℕ) → x < 2 ^ 32 → SoundMachine limit m → SoundMachine limit (putRegister n x m)
   register-put m n x h s = go (ltb n 3)
@@ -219,27 +117,27 @@ module _ (limit : ℕ) where
           let r = s .record-is in
           let k = r .core in
           let all : length (d .io) ≡ 23 = r .all in
-          record
-            { record-is =
-                record
-                  { core = record { status = k .status; handler = k .handler; pc = k .pc; age = k .age; left = omega arith }
-                  ; thirteen = r .thirteen
-                  ; registers = r .registers
-                  ; all = simp length-set (r .all)
-                  ; fitting =
+          record {
+            record-is =
+                record {
+                  core = record { status = k .status; handler = k .handler; pc = k .pc; age = k .age; left = omega arith };
+                  thirteen = r .thirteen;
+                  registers = r .registers;
+                  all = simp length-set (r .all);
+                  fitting =
                       holds-after (set (d .io) diskcmd low) diskstatus 1 (λ n v. v < 2 ^ keptBits n)
-                      (holds-after (d .io) diskcmd low (λ n v. v < 2 ^ keptBits n) (r .fitting) (omega arith)) (omega arith)
-                  ; disk =
-                      record
-                        { busy =
+                      (holds-after (d .io) diskcmd low (λ n v. v < 2 ^ keptBits n) (r .fitting) (omega arith)) (omega arith);
+                  disk =
+                      record {
+                        busy =
                             λ h.
                             let status = getD-set-same (set (d .io) diskcmd low) diskstatus 1 0 (simp length-set (omega arith)) in
                             let command = getD-set-other (set (d .io) diskcmd low) diskstatus diskcmd 1 0 (omega arith) ∙ getD-set-same (d .io) diskcmd low 0 (omega arith) in
-                            (status, rw command some, rw command few)
-                        ; free = λ e. absurd (omega arith)
-                        }
-                  }
-            }
+                            (status, rw command some, rw command few);
+                        free = λ e. absurd (omega arith);
+                      };
+                };
+          }
 
   -- A free disk takes no command.
   sound-cleared : (m : Machine) → isFree m ≡ true → SoundMachine limit m → SoundMachine limit (putIo diskcmd 0 m)
@@ -249,21 +147,21 @@ module _ (limit : ℕ) where
       let zero-status = eqb-true (ioAt diskstatus m) 0 free in
       let all : length (m .io) ≡ 23 = r .all in
       let status = getD-set-other (m .io) diskcmd diskstatus 0 0 (omega arith) in
-      record
-        { record-is =
-            record
-              { core = r .core
-              ; thirteen = r .thirteen
-              ; registers = r .registers
-              ; all = length-set (m .io) diskcmd 0 ∙ r .all
-              ; fitting = holds-after (m .io) diskcmd 0 (λ n v. v < 2 ^ keptBits n) (r .fitting) (omega arith)
-              ; disk =
-                  record
-                    { busy = λ h. absurd (let one = r .disk .busy h .0 in omega arith)
-                    ; free = λ e. (status ∙ zero-status, getD-set-same (m .io) diskcmd 0 0 (omega arith))
-                    }
-              }
-        }
+      record {
+        record-is =
+            record {
+              core = r .core;
+              thirteen = r .thirteen;
+              registers = r .registers;
+              all = length-set (m .io) diskcmd 0 ∙ r .all;
+              fitting = holds-after (m .io) diskcmd 0 (λ n v. v < 2 ^ keptBits n) (r .fitting) (omega arith);
+              disk =
+                  record {
+                    busy = λ h. absurd (let one = r .disk .busy h .0 in omega arith);
+                    free = λ e. (status ∙ zero-status, getD-set-same (m .io) diskcmd 0 0 (omega arith));
+                  };
+            };
+      }
 
   sound-commanded : (low : ℕ) (m : Machine) → SoundMachine limit m → SoundMachine limit (commanded low m)
   unfolding commanded
@@ -343,52 +241,52 @@ module _ (limit : ℕ) where
           let none = eqb-true (m .core .left - 1) 0 e in
           let all : length (m .io) ≡ 23 = r .all in
           let gone = free-disk (m .io) (omega arith) in
-          record
-            { record-is =
-                record
-                  { core = record { status = k .status; handler = k .handler; pc = k .pc; age = k .age; left = omega (arith, k .left) }
-                  ; thirteen = r .thirteen
-                  ; registers = r .registers
-                  ; all = length-freed (m .io) ∙ r .all
-                  ; fitting =
+          record {
+            record-is =
+                record {
+                  core = record { status = k .status; handler = k .handler; pc = k .pc; age = k .age; left = omega (arith, k .left) };
+                  thirteen = r .thirteen;
+                  registers = r .registers;
+                  all = length-freed (m .io) ∙ r .all;
+                  fitting =
                       holds-after (set (set (m .io) diskcmd 0) diskstatus 0) irq1status 1 (λ n v. v < 2 ^ keptBits n)
                       (holds-after (set (m .io) diskcmd 0) diskstatus 0 (λ n v. v < 2 ^ keptBits n) (holds-after (m .io) diskcmd 0 (λ n v. v < 2 ^ keptBits n) (r .fitting) (omega arith)) (omega arith))
-                      (omega arith)
-                  ; disk = record { busy = λ h. absurd (omega arith); free = λ q. (gone .1, gone .0) }
-                  }
-            }
+                      (omega arith);
+                  disk = record { busy = λ h. absurd (omega arith); free = λ q. (gone .1, gone .0) };
+                };
+          }
       go true false e =
           let r = s .record-is in
           let k = r .core in
           let more = eqb-false (m .core .left - 1) 0 e in
-          record
-            { record-is =
-                record
-                  { core = record { status = k .status; handler = k .handler; pc = k .pc; age = k .age; left = omega (arith, k .left) }
-                  ; thirteen = r .thirteen
-                  ; registers = r .registers
-                  ; all = r .all
-                  ; fitting = r .fitting
-                  ; disk = record { busy = λ h. r .disk .busy (omega arith); free = λ q. absurd (more q) }
-                  }
-            }
+          record {
+            record-is =
+                record {
+                  core = record { status = k .status; handler = k .handler; pc = k .pc; age = k .age; left = omega (arith, k .left) };
+                  thirteen = r .thirteen;
+                  registers = r .registers;
+                  all = r .all;
+                  fitting = r .fitting;
+                  disk = record { busy = λ h. r .disk .busy (omega arith); free = λ q. absurd (more q) };
+                };
+          }
 
   sound-counted : (m : Machine) → SoundMachine limit m → SoundMachine (limit + 1) (counted m)
   unfolding counted ioBits
   sound-counted m s =
       let r = io-put m clks (plus (ioAt clks m) 1) (wrapped _) (λ e. omega arith) (λ e. omega arith) s .record-is in
       let k = r .core in
-      record
-        { record-is =
-            record
-              { core = record { status = k .status; handler = k .handler; pc = k .pc; age = omega (arith, k .age); left = k .left }
-              ; thirteen = r .thirteen
-              ; registers = r .registers
-              ; all = r .all
-              ; fitting = r .fitting
-              ; disk = r .disk
-              }
-        }
+      record {
+        record-is =
+            record {
+              core = record { status = k .status; handler = k .handler; pc = k .pc; age = omega (arith, k .age); left = k .left };
+              thirteen = r .thirteen;
+              registers = r .registers;
+              all = r .all;
+              fitting = r .fitting;
+              disk = r .disk;
+            };
+      }
 
   -- ---- the cycle
 
@@ -402,8 +300,34 @@ sound-cycle image irq2 m s young =
     let r = s .record-is in
     let k = r .core in
     sound-cycle-to (2 ^ 40 - 1) image irq2 m
-    (record
-      { record-is =
+    (record {
+      record-is =
           sound-core-to r
-          (record { status = k .status; handler = k .handler; pc = k .pc; age = young; left = k .left })
-      })
+          (record { status = k .status; handler = k .handler; pc = k .pc; age = young; left = k .left });
+    })
+
+-- ---- the disk of a sound machine
+
+module _ (limit : ℕ) (image irq2 : List ℕ) (m : Machine) (s : SoundMachine limit m) where
+  -- While cycles are to go each cycle takes one, whatever it does.
+  pub left-falls : 0 < m .core .left → cycle image irq2 m .core .left ≡ m .core .left - 1
+  left-falls going =
+      let at = sound-at-fetch limit irq2 m s .record-is in
+      let one = at .disk .busy (rw (left-at-fetch irq2 m .same) going) .0 in
+      busy-left image irq2 m going (ne-eqb (ioAt diskstatus (atFetch irq2 m)) 0 (λ e. omega arith))
+
+  -- A command that is accepted leaves 1,024 of them.
+  pub accepted : acceptsCommand image irq2 m ≡ true → cycle image irq2 m .core .left ≡ 1024
+  unfolding acceptsCommand
+  accepted h = accepted-left image irq2 m (go (eqb (m .core .left) 0) refl) h
+    where
+      go : (t : Bool) → eqb (m .core .left) 0 ≡ t → m .core .left ≡ 0
+      go true e = eqb-true (m .core .left) 0 e
+      go false e =
+          let d = atFetch irq2 m in
+          let f = fieldsOf (fetched image d) in
+          let free = eqb-true (ioAt diskstatus d) 0 (command-free (operationOf (f .op)) (operandsOf f d) d h) in
+          let more = eqb-false (m .core .left) 0 e in
+          let some : 0 < m .core .left = omega arith in
+          let one = sound-at-fetch limit irq2 m s .record-is .disk .busy (rw (left-at-fetch irq2 m .same) some) .0 in
+          absurd (omega arith)

@@ -1,0 +1,122 @@
+-- Parts of a sound record that change and leave it sound. Assumes nothing.
+use Prim.Native.Nat.{ℕ, _+_, _-_, _%_, _^_, _≤_, _<_}
+use mathlib.Core.Path.{_≡_, refl, sym, _∙_}
+use mathlib.Core.Bool.{Bool, true, false, cond, not}
+use mathlib.Core.List.{List}
+use native.Mathlib.Nat.{lt-of-le-of-lt, div-le-self, pow-le-pow-right, one-le-pow}
+use native.Mathlib.Omega.{arith}
+use lib.ListN.{length, getD, set, length-set}
+use lib.Bits.{and-lt, or-lt, xor-lt}
+use lib.Dec.{eqb, leb, ltb}
+use lib.Signed.{shrZ, mag-shr}
+use lib.Seq.{getD-set-same, getD-set-other, set-out}
+use mir.Syntax.{w32}
+use mir.Val.{toZ, ofZ}
+use mir.Facts.{fits-ofZ, sfits-toZ}
+use borrow.Author.Tests.{eqb-true, eqb-false, leb-true, leb-false, ltb-true, ltb-false}
+use Rattle.text.proofs.Truth.{below}
+use Rattle.isa.specs.Operations.{Calculation, add, sub, mac, and, or, xor, sll, sra, srl}
+use Rattle.isa.specs.Registers.{ioBits, diskcmd, diskstatus, monitorcmd}
+use Rattle.isa.specs.Word.{signExtended}
+use Rattle.isa.proofs.IoLaws.{no-bits-above}
+use Rattle.machine.specs.declared.Core.{Core}
+use Rattle.machine.specs.Words.{calculated, holds}
+use Rattle.machine.specs.State.{registers}
+use Rattle.machine.specs.Soundness.{keptBits, SoundCore, SoundTo}
+
+-- ---- numbers
+
+pub power-pos : (k : ℕ) → 0 < 2 ^ k
+power-pos k = one-le-pow k 2 (omega arith)
+
+-- ---- one I/O register set
+
+module _ (io : List ℕ) (n x : ℕ) where
+  -- What an I/O register holds after a store: x at n, as before elsewhere.
+  pub holds-after : (P : ℕ → ℕ → Type 0) → ((k : ℕ) → P k (getD io k 0)) → P n x → (k : ℕ) → P k (getD (set io n x) k 0)
+  holds-after P old new k = go (eqb k n) refl (ltb n (length io)) refl
+    where
+      go : (t : Bool) → eqb k n ≡ t → (u : Bool) → ltb n (length io) ≡ u → P k (getD (set io n x) k 0)
+      go false e u r = rw (getD-set-other io n k x 0 (eqb-false k n e)) (old k)
+      go true e true r = rw (eqb-true k n e, getD-set-same io n x 0 (ltb-true n (length io) r)) new
+      go true e false r = rw (set-out io n x (ltb-false n (length io) r)) (old k)
+
+module _ (limit : ℕ) (c : Core) (regs io : List ℕ) (s : SoundTo limit c regs io) where
+  -- A register that is not the disk's takes a value that fits.
+  pub sound-io : (n x : ℕ) → x < 2 ^ keptBits n → (n ≡ diskcmd → ⊥) → (n ≡ diskstatus → ⊥) → SoundTo limit c regs (set io n x)
+  sound-io n x fits a b =
+      record {
+        core = s .core;
+        thirteen = s .thirteen;
+        registers = s .registers;
+        all = length-set io n x ∙ s .all;
+        fitting = holds-after io n x (λ k v. v < 2 ^ keptBits k) (s .fitting) fits;
+        disk =
+            record {
+              busy = rw (getD-set-other io n diskstatus x 0 (λ e. b (sym e)), getD-set-other io n diskcmd x 0 (λ e. a (sym e))) (s .disk .busy);
+              free = rw (getD-set-other io n diskstatus x 0 (λ e. b (sym e)), getD-set-other io n diskcmd x 0 (λ e. a (sym e))) (s .disk .free);
+            };
+      }
+
+  -- The scalars may change, but for left.
+  pub sound-core : (d : Core) → SoundCore limit d → d .left ≡ c .left → SoundTo limit d regs io
+  sound-core d k e =
+      record { core = k; thirteen = s .thirteen; registers = s .registers; all = s .all; fitting = s .fitting; disk = rw e (s .disk) }
+
+  -- A register takes a word.
+  pub sound-set : (n x : ℕ) → x < 2 ^ 32 → SoundTo limit c (set regs n x) io
+  sound-set n x fits =
+      record {
+        core = s .core;
+        thirteen = length-set regs n x ∙ s .thirteen;
+        registers = holds-after regs n x (λ k v. v < 2 ^ 32) (s .registers) fits;
+        all = s .all;
+        fitting = s .fitting;
+        disk = s .disk;
+      }
+
+-- The limit of the age, changed with the scalars.
+pub sound-core-to : {limit below : ℕ} {c : Core} {regs io : List ℕ} → SoundTo limit c regs io → SoundCore below c → SoundTo below c regs io
+sound-core-to s k = record { core = k; thirteen = s .thirteen; registers = s .registers; all = s .all; fitting = s .fitting; disk = s .disk }
+
+-- ---- words
+
+pub bits-le : (n : ℕ) → ioBits n ≤ 32
+unfolding ioBits
+bits-le n = go (leb n 22) refl
+  where
+    go : (t : Bool) → leb n 22 ≡ t → ioBits n ≤ 32
+    go true e = let low = leb-true n 22 e in leb-true _ _ (below (λ k. leb (ioBits k) 32) 23 refl n (omega arith))
+    go false e = let high = leb-false n 22 e in rw (no-bits-above n (omega arith)) (omega arith)
+
+pub kept-le : (n : ℕ) → 2 ^ keptBits n ≤ 2 ^ 32
+kept-le n = go (eqb n monitorcmd)
+  where
+    go : (t : Bool) → 2 ^ cond t 0 (ioBits n) ≤ 2 ^ 32
+    go true = omega arith
+    go false = pow-le-pow-right {n = 2} (omega arith) (bits-le n)
+
+pub wrapped : (x : ℕ) → x % 2 ^ 32 < 2 ^ 32
+wrapped x = omega arith
+
+pub sign-lt : (i : ℕ) → i < 2 ^ 12 → signExtended i < 2 ^ 32
+sign-lt i h = go (ltb i (2 ^ 11))
+  where
+    go : (t : Bool) → cond t i (2 ^ 32 - 2 ^ 12 + i) < 2 ^ 32
+    go true = omega arith
+    go false = omega arith
+
+pub shifted : (x m : ℕ) → x < 2 ^ 32 → ofZ w32 (shrZ (toZ w32 x) m) < 2 ^ 32
+shifted x m h =
+    fits-ofZ {w = w32} {z = shrZ (toZ w32 x) m} (record { sfits = lt-of-le-of-lt (mag-shr (toZ w32 x) m) (sfits-toZ {w = w32} {n = x} (record { fits = h }) .sfits) }) .fits
+
+pub calculated-lt : (k : Calculation) (x y z : ℕ) → x < 2 ^ 32 → y < 2 ^ 32 → z < 2 ^ 32 → calculated k x y z < 2 ^ 32
+calculated-lt add x y z hx hy hz = wrapped _
+calculated-lt sub x y z hx hy hz = wrapped _
+calculated-lt mac x y z hx hy hz = wrapped _
+calculated-lt and x y z hx hy hz = and-lt 32 _ z (and-lt 32 x y hx hy) hz
+calculated-lt or x y z hx hy hz = or-lt 32 _ z (or-lt 32 x y hx hy) hz
+calculated-lt xor x y z hx hy hz = xor-lt 32 _ z (xor-lt 32 x y hx hy) hz
+calculated-lt sll x y z hx hy hz = wrapped _
+calculated-lt sra x y z hx hy hz = shifted x (2 ^ (y % 32)) hx
+calculated-lt srl x y z hx hy hz = lt-of-le-of-lt (div-le-self x (2 ^ (y % 32))) hx

@@ -10,9 +10,9 @@ use Rattle.text.specs.Place.{put}
 use Rattle.devices.specs.Timer.{timed}
 use Rattle.devices.specs.Disk.{freed}
 use Rattle.isa.specs.Operations.{sub, sra, blt, mac, operationOf}
-use Rattle.isa.specs.Registers.{ioName, ioBits, diskbuffer}
+use Rattle.isa.specs.Registers.{ioName, ioBits, diskbuffer, irq2enable, irq2status, leds}
 use Rattle.machine.specs.Words.{calculated, holds}
-use Rattle.machine.specs.State.{Machine, freshMachine, withPc, withRegs, putIo}
+use Rattle.machine.specs.State.{Machine, freshMachine, withPc, withRegs, ioAt, putIo}
 use Rattle.machine.specs.Interrupts.{isIn, irq2Raised, interrupted}
 use Rattle.machine.specs.Execution.{commanded, painted, outputted, executed, fetchedAndExecuted}
 use Rattle.machine.specs.Cycle.{timerStepped, diskStepped, counted, atFetch, cycle, cycles}
@@ -89,3 +89,29 @@ command-accepted = refl
 command-refused : cycle (0x14010200E001 ∷ []) [] (reader 3969) .core ≡ record { status = 5; handler = 0; pc = 0; age = 1; left = 0 }
 unfolding reader cycle counted diskStepped timerStepped fetchedAndExecuted executed outputted commanded painted atFetch interrupted irq2Raised isIn operationOf ioBits timed freed put
 command-refused = refl
+
+-- ---- "Mistakes to exclude"
+
+-- "clearing the status bits on entry": irq2 asks in cycle 0, the handler flag rises, and irq2status is still 1 after the cycle.
+entered : Machine
+entered = cycle (0 ∷ []) (0 ∷ []) (putIo irq2enable 1 start)
+
+entry-rises : entered .core ≡ record { status = 0; handler = 1; pc = 1; age = 1; left = 0 }
+unfolding entered start cycle counted diskStepped timerStepped fetchedAndExecuted executed outputted commanded painted atFetch interrupted irq2Raised isIn operationOf ioBits timed freed put
+entry-rises = refl
+
+entry-keeps-status : ioAt irq2status entered ≡ 1
+unfolding entered start cycle counted diskStepped timerStepped fetchedAndExecuted executed outputted commanded painted atFetch interrupted irq2Raised isIn operationOf ioBits timed freed put
+entry-keeps-status = refl
+
+-- "an L line for an unchanged out": 5 to leds that hold 5.
+unchanged-leds : changeLines 0 leds 5 (putIo leds 5 start) ≡ []
+unfolding start changeLines lineLD
+unchanged-leds = refl
+
+-- "branching on rd": beq $imm2, $zero, $zero, $imm1, 0x123, 0x456 jumps to R[rm], which is 0x123.
+branch-to-rm : cycle (0x092001123456 ∷ []) [] start .core .pc ≡ 0x123
+unfolding start cycle counted diskStepped timerStepped fetchedAndExecuted executed outputted commanded painted atFetch interrupted irq2Raised isIn operationOf ioBits timed freed put
+branch-to-rm = refl
+
+-- "a halt or fault whose cycle isn't counted": `halted` and `fault-4096` above.

@@ -9,10 +9,10 @@ use Rattle.text.specs.Numerals.{digits, decimal, digitCount, digitCountUpTo}
 use Rattle.text.specs.Place.{put}
 use Rattle.devices.specs.Timer.{timed}
 use Rattle.devices.specs.Disk.{freed}
-use Rattle.isa.specs.Operations.{sub, sra, blt, mac, operationOf}
-use Rattle.isa.specs.Registers.{ioName, ioBits, diskbuffer, irq2enable, irq2status, leds}
+use Rattle.isa.specs.Operations.{sub, sra, blt, mac, output, operationOf}
+use Rattle.isa.specs.Registers.{ioName, ioBits, diskcmd, diskbuffer, irq2enable, irq2status, leds}
 use Rattle.machine.specs.Words.{calculated, holds}
-use Rattle.machine.specs.State.{Machine, freshMachine, withPc, withRegs, ioAt, putIo}
+use Rattle.machine.specs.State.{Machine, freshMachine, withPc, withAge, withRegs, ioAt, putIo}
 use Rattle.machine.specs.Interrupts.{isIn, irq2Raised, interrupted}
 use Rattle.machine.specs.Execution.{commanded, painted, outputted, executed, fetchedAndExecuted}
 use Rattle.machine.specs.Cycle.{timerStepped, diskStepped, counted, atFetch, cycle, cycles}
@@ -89,6 +89,16 @@ command-accepted = refl
 command-refused : cycle (0x14010200E001 ∷ []) [] (reader 3969) .core ≡ record { status = 5; handler = 0; pc = 0; age = 1; left = 0 }
 unfolding reader cycle counted diskStepped timerStepped fetchedAndExecuted executed outputted commanded painted atFetch interrupted irq2Raised isIn operationOf ioBits timed freed put
 command-refused = refl
+
+-- "status 5 does" log line H.
+refused-logs : ioLines 0 output (record { rs = 0; rt = diskcmd; rm = 1; rd = 0; target = 0 }) (reader 3969) ≡ bytes "H 0 WRITE diskcmd 00000001\n"
+unfolding reader lineH changeLines ioLines ioBits ioName digits decimal digitCount digitCountUpTo put
+refused-logs = refl
+
+-- "If c is in the irq2 list", c being the age: clks, which a program may set, is 0 here.
+irq2-by-age : ioAt irq2status (irq2Raised (7 ∷ []) (withAge 7 start)) ≡ 1
+unfolding start irq2Raised isIn
+irq2-by-age = refl
 
 -- ---- "Mistakes to exclude"
 

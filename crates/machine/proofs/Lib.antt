@@ -4,3 +4,4 @@ pub mod LineLaws
 pub mod Irq2Laws
 pub mod SoundParts
 pub mod SoundLaws
+pub mod MemoryLaws

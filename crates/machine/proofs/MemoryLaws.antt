@@ -1,21 +1,25 @@
 -- A cycle keeps the lengths of the data memory, the disk and the frame. Assumes nothing.
-use Prim.Native.Nat.{ℕ, _*_, _%_}
+use Prim.Native.Nat.{ℕ, zero, suc, _+_, _*_, _%_, _^_, _<_}
 use mathlib.Core.Path.{_≡_, refl, _∙_}
 use mathlib.Core.Bool.{Bool, true, false, cond, _&&_}
-use mathlib.Core.List.{List}
+use mathlib.Core.List.{List, [], _∷_}
+use native.Mathlib.Omega.{arith}
 use lib.Dec.{eqb, leb, ltb}
-use lib.ListN.{length, length-set}
-use lib.Seq.{length-sets}
+use lib.ListN.{length, getD, set, take, drop, length-set}
+use lib.Seq.{sets, length-sets, getD-drop}
 use Rattle.text.specs.Place.{put}
 use Rattle.isa.specs.Word.{fieldsOf}
 use Rattle.isa.specs.Operations.{Operation, operationOf, calculate, branch, jal, lw, sw, reti, input, output, halt, unknown}
-use Rattle.isa.specs.Registers.{isListed, diskcmd, diskstatus, diskbuffer, disksector, monitorcmd, monitoraddr, monitordata}
+use Rattle.isa.specs.Registers.{isListed, ioBits, diskcmd, diskstatus, diskbuffer, disksector, monitorcmd, monitoraddr, monitordata}
 use Rattle.machine.specs.Words.{holds, plus}
 use Rattle.machine.specs.declared.Core.{Core}
 use Rattle.machine.specs.State.{Machine, ioAt}
 use Rattle.machine.specs.Interrupts.{isIn, isAsked, irq2Raised, interrupted}
 use Rattle.machine.specs.Execution.{Operands, fetched, operandsOf, address, isFree, isReadOrWrite, sector, buffer, copied, commanded, painted, outputted, executed, fetchedAndExecuted}
 use Rattle.machine.specs.Cycle.{timerStepped, diskStepped, counted, atFetch, cycle}
+use Rattle.machine.specs.Soundness.{Sound}
+use Rattle.machine.proofs.SoundParts.{holds-after, wrapped}
+use Rattle.machine.proofs.SoundLaws.{sound-at-fetch}
 
 -- The memories of s are as long as those of m.
 pub record KeepsLengths (m s : Machine) : Type 0 where
@@ -99,3 +103,93 @@ lengths-kept image irq2 m =
     let f = fieldsOf (fetched image s) in
     let done = and-then m s _ (lengths-at-fetch irq2 m) (lengths-executed (operationOf (f .op)) (operandsOf f s) s) in
     record { memory = done .memory; disk = done .disk; frame = done .frame }
+
+-- ---- ranges
+
+-- Each number of l is below b.
+abbrev Below : ℕ → List ℕ → Type 0
+Below b l = (n : ℕ) → getD l n 0 < b
+
+below-sets : (b : ℕ) (l : List ℕ) (i : ℕ) (xs : List ℕ) → Below b l → Below b xs → Below b (sets l i xs)
+below-sets b l i [] h hs = h
+below-sets b l i (x ∷ xs) h hs = below-sets b (set l i x) (suc i) xs (holds-after l i x (λ k v. v < b) h (hs zero)) (λ n. hs (suc n))
+
+below-take : (b k : ℕ) (l : List ℕ) → Below b l → Below b (take k l)
+below-take b zero l h n = let first : getD l 0 0 < b = h 0 in omega arith
+below-take b (suc k) [] h n = h n
+below-take b (suc k) (x ∷ xs) h zero = h zero
+below-take b (suc k) (x ∷ xs) h (suc n) = below-take b k xs (λ i. h (suc i)) n
+
+below-part : (b k j : ℕ) (l : List ℕ) → Below b l → Below b (take k (drop j l))
+below-part b k j l h = below-take b k (drop j l) (λ n. rw (getD-drop j l n 0) (h (j + n)))
+
+-- "The data memory is 4,096 words of 32 bits, the disk 16,384 such words .., the frame 65,536 bytes": each fits.
+pub record Fits (m : Machine) : Type 0 where
+  pub memory : Below (2 ^ 32) (m .memory)
+  pub disk : Below (2 ^ 32) (m .disk)
+  pub frame : Below (2 ^ 8) (m .frame)
+
+fits : {m : Machine} {c : Core} {regs io : List ℕ} → Fits m → Fits (record { core = c; regs = regs; io = io; memory = m .memory; disk = m .disk; frame = m .frame })
+fits h = record { memory = h .memory; disk = h .disk; frame = h .frame }
+
+one-of : (t : Bool) {a b : Machine} → Fits a → Fits b → Fits (cond t a b)
+one-of true p q = p
+one-of false p q = q
+
+fits-at-fetch : (irq2 : List ℕ) (m : Machine) → Fits m → Fits (atFetch irq2 m)
+unfolding atFetch interrupted irq2Raised
+fits-at-fetch irq2 m h =
+    let raised = one-of (isIn (m .core .age) irq2) (fits h) h in
+    one-of (isAsked (irq2Raised irq2 m) && eqb (irq2Raised irq2 m .core .handler) 0) (fits raised) raised
+
+fits-copied : (command : ℕ) (m : Machine) → Fits m → Fits (copied command m)
+unfolding put
+fits-copied command m h =
+    let from-disk = below-part (2 ^ 32) 128 (128 * ioAt disksector m) (m .disk) (h .disk) in
+    let from-memory = below-part (2 ^ 32) 128 (ioAt diskbuffer m) (m .memory) (h .memory) in
+    one-of (eqb command 1)
+    (record { memory = below-sets (2 ^ 32) (m .memory) (ioAt diskbuffer m) (sector m) (h .memory) from-disk; disk = h .disk; frame = h .frame })
+    (record { memory = h .memory; disk = below-sets (2 ^ 32) (m .disk) (128 * ioAt disksector m) (buffer m) (h .disk) from-memory; frame = h .frame })
+
+fits-commanded : (low : ℕ) (m : Machine) → Fits m → Fits (commanded low m)
+unfolding commanded
+fits-commanded low m h =
+    one-of (isFree m) (one-of (isReadOrWrite low) (one-of (leb (ioAt diskbuffer m) 3968) (fits (fits-copied low m h)) (fits h)) (fits h)) (fits h)
+
+fits-painted : (x : ℕ) (m : Machine) → ioAt monitordata m < 2 ^ 8 → Fits m → Fits (painted x m)
+unfolding painted
+fits-painted x m byte h =
+    one-of (eqb (x % 2) 1)
+    (record { memory = h .memory; disk = h .disk; frame = holds-after (m .frame) (ioAt monitoraddr m) (ioAt monitordata m) (λ k v. v < 2 ^ 8) (h .frame) byte })
+    h
+
+fits-outputted : (a x : ℕ) (m : Machine) → ioAt monitordata m < 2 ^ 8 → Fits m → Fits (outputted a x m)
+unfolding outputted
+fits-outputted a x m byte h =
+    one-of (eqb a diskcmd) (fits-commanded (x % 4) m h)
+    (fits (one-of (eqb a diskstatus) h (one-of (eqb a monitorcmd) (fits-painted x m byte h) (fits h))))
+
+fits-executed : (k : Operation) (o : Operands) (m : Machine) → ioAt monitordata m < 2 ^ 8 → Fits m → Fits (executed k o m)
+unfolding executed
+fits-executed (calculate k) o m byte h = fits h
+fits-executed (branch k) o m byte h = one-of (holds k (o .rs) (o .rt)) (fits h) (fits h)
+fits-executed jal o m byte h = fits h
+fits-executed lw o m byte h = one-of (ltb (address o) 4096) (fits h) (fits h)
+fits-executed sw o m byte h =
+    one-of (ltb (address o) 4096)
+    (record { memory = holds-after (m .memory) (address o) (plus (o .rm) (o .rd)) (λ k v. v < 2 ^ 32) (h .memory) (wrapped _); disk = h .disk; frame = h .frame })
+    (fits h)
+fits-executed reti o m byte h = fits h
+fits-executed input o m byte h = one-of (isListed (address o)) (fits h) (fits h)
+fits-executed output o m byte h = one-of (isListed (address o)) (fits-outputted (address o) (o .rm) m byte h) (fits h)
+fits-executed halt o m byte h = fits h
+fits-executed unknown o m byte h = fits h
+
+-- Over a whole cycle of a machine whose record is sound.
+pub fits-kept : (image irq2 : List ℕ) (m : Machine) → Sound (m .core) (m .regs) (m .io) → Fits m → Fits (cycle image irq2 m)
+unfolding cycle counted diskStepped timerStepped fetchedAndExecuted ioBits
+fits-kept image irq2 m sound h =
+    let s = atFetch irq2 m in
+    let f = fieldsOf (fetched image s) in
+    let byte = sound-at-fetch (2 ^ 40) irq2 m (record { record-is = sound }) .record-is .fitting monitordata in
+    fits (fits-executed (operationOf (f .op)) (operandsOf f s) s byte (fits-at-fetch irq2 m h))

@@ -1,7 +1,7 @@
 -- A disk command and its 1,024 cycles. Assumes nothing.
 use Prim.Native.Nat.{ℕ, _-_, _%_, _<_}
 use mathlib.Core.Path.{_≡_, refl, _∙_, ap}
-use mathlib.Core.Bool.{Bool, true, false, cond, _&&_, false≢true}
+use mathlib.Core.Bool.{true, false, _&&_, false≢true}
 use mathlib.Core.List.{List}
 use lib.Dec.{eqb, leb, ltb}
 use borrow.Author.Tests.{eqb-true, lt-ltb}
@@ -15,14 +15,11 @@ use Rattle.machine.specs.State.{Machine, ioAt}
 use Rattle.machine.specs.Interrupts.{isIn, isAsked, irq2Raised, interrupted}
 use Rattle.machine.specs.Execution.{Operands, fetched, operandsOf, address, isFree, isReadOrWrite, onward, commanded, painted, outputted, executed, fetchedAndExecuted}
 use Rattle.machine.specs.Cycle.{isOutput, timerStepped, diskStepped, counted, atFetch, cycle, isCommand, acceptsCommand}
+use Rattle.machine.proofs.Choice.{either}
 
--- s has the cycles to go that m has; so has a choice between two that do.
+-- s has the cycles to go that m has.
 pub record KeepsLeft (m s : Machine) : Type 0 where
   pub same : s .core .left ≡ m .core .left
-
-either : (m : Machine) (t : Bool) {a b : Machine} → KeepsLeft m a → KeepsLeft m b → KeepsLeft m (cond t a b)
-either m true p q = p
-either m false p q = q
 
 and-onward : (m s : Machine) → KeepsLeft m s → KeepsLeft m (onward s)
 and-onward m s k = record { same = k .same }
@@ -31,27 +28,27 @@ and-onward m s k = record { same = k .same }
 pub left-at-fetch : (irq2 : List ℕ) (m : Machine) → KeepsLeft m (atFetch irq2 m)
 unfolding atFetch interrupted irq2Raised
 left-at-fetch irq2 m =
-    let entry = either (irq2Raised irq2 m) (isAsked (irq2Raised irq2 m) && eqb (irq2Raised irq2 m .core .handler) 0) (record { same = refl }) (record { same = refl }) in
-    let raised = either m (isIn (m .core .age) irq2) (record { same = refl }) (record { same = refl }) in
+    let entry = either (KeepsLeft (irq2Raised irq2 m)) (isAsked (irq2Raised irq2 m) && eqb (irq2Raised irq2 m .core .handler) 0) (record { same = refl }) (record { same = refl }) in
+    let raised = either (KeepsLeft m) (isIn (m .core .age) irq2) (record { same = refl }) (record { same = refl }) in
     record { same = entry .same ∙ raised .same }
 
 -- While the disk is busy no instruction changes left.
 left-kept : (k : Operation) (o : Operands) (m : Machine) → isFree m ≡ false → KeepsLeft m (executed k o m)
 unfolding executed outputted commanded painted
 left-kept (calculate k) o m busy = record { same = refl }
-left-kept (branch k) o m busy = either m (holds k (o .rs) (o .rt)) (record { same = refl }) (record { same = refl })
+left-kept (branch k) o m busy = either (KeepsLeft m) (holds k (o .rs) (o .rt)) (record { same = refl }) (record { same = refl })
 left-kept jal o m busy = record { same = refl }
-left-kept lw o m busy = either m (ltb (address o) 4096) (record { same = refl }) (record { same = refl })
-left-kept sw o m busy = either m (ltb (address o) 4096) (record { same = refl }) (record { same = refl })
+left-kept lw o m busy = either (KeepsLeft m) (ltb (address o) 4096) (record { same = refl }) (record { same = refl })
+left-kept sw o m busy = either (KeepsLeft m) (ltb (address o) 4096) (record { same = refl }) (record { same = refl })
 left-kept reti o m busy = record { same = refl }
-left-kept input o m busy = either m (isListed (address o)) (record { same = refl }) (record { same = refl })
+left-kept input o m busy = either (KeepsLeft m) (isListed (address o)) (record { same = refl }) (record { same = refl })
 left-kept output o m busy =
-    either m (isListed (address o))
-    (either m (eqb (address o) diskcmd)
+    either (KeepsLeft m) (isListed (address o))
+    (either (KeepsLeft m) (eqb (address o) diskcmd)
     (record { same = rw busy })
     (and-onward m _
-    (either m (eqb (address o) diskstatus) (record { same = refl })
-    (either m (eqb (address o) monitorcmd) (either m (eqb (o .rm % 2) 1) (record { same = refl }) (record { same = refl })) (record { same = refl })))))
+    (either (KeepsLeft m) (eqb (address o) diskstatus) (record { same = refl })
+    (either (KeepsLeft m) (eqb (address o) monitorcmd) (either (KeepsLeft m) (eqb (o .rm % 2) 1) (record { same = refl }) (record { same = refl })) (record { same = refl })))))
     (record { same = refl })
 left-kept halt o m busy = record { same = refl }
 left-kept unknown o m busy = record { same = refl }

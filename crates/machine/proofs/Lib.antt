@@ -1,4 +1,5 @@
 -- Laws of the plain machine.
+pub mod Choice
 pub mod DiskLaws
 pub mod LineLaws
 pub mod Irq2Laws

@@ -1,7 +1,7 @@
--- A cycle keeps the lengths of the data memory, the disk and the frame. Assumes nothing.
+-- A cycle keeps the lengths of the data memory, the disk and the frame, and the range of what they hold. Assumes nothing.
 use Prim.Native.Nat.{ℕ, zero, suc, _+_, _*_, _%_, _^_, _<_}
 use mathlib.Core.Path.{_≡_, refl, _∙_}
-use mathlib.Core.Bool.{Bool, true, false, cond, _&&_}
+use mathlib.Core.Bool.{_&&_}
 use mathlib.Core.List.{List, [], _∷_}
 use native.Mathlib.Omega.{arith}
 use lib.Dec.{eqb, leb, ltb}
@@ -20,6 +20,7 @@ use Rattle.machine.specs.Cycle.{timerStepped, diskStepped, counted, atFe
 use Rattle.machine.specs.Soundness.{Sound}
 use Rattle.machine.proofs.SoundParts.{holds-after, wrapped}
 use Rattle.machine.proofs.SoundLaws.{sound-at-fetch}
+use Rattle.machine.proofs.Choice.{either}
 
 -- The memories of s are as long as those of m.
 pub record KeepsLengths (m s : Machine) : Type 0 where
@@ -27,14 +28,9 @@ pub record KeepsLengths (m s : Machine) : Type 0 where
   pub disk : length (s .disk) ≡ length (m .disk)
   pub frame : length (s .frame) ≡ length (m .frame)
 
--- So are those of a machine that has these memories, whatever its record is,
+-- So are those of a machine that has these memories, whatever its record is.
 same : {m : Machine} {c : Core} {regs io : List ℕ} → KeepsLengths m (record { core = c; regs = regs; io = io; memory = m .memory; disk = m .disk; frame = m .frame })
 same = record { memory = refl; disk = refl; frame = refl }
-
--- and of a choice between two.
-either : (m : Machine) (t : Bool) {a b : Machine} → KeepsLengths m a → KeepsLengths m b → KeepsLengths m (cond t a b)
-either m true p q = p
-either m false p q = q
 
 and-then : (m s t : Machine) → KeepsLengths m s → KeepsLengths s t → KeepsLengths m t
 and-then m s t a b =
@@ -43,13 +39,13 @@ and-then m s t a b =
 lengths-at-fetch : (irq2 : List ℕ) (m : Machine) → KeepsLengths m (atFetch irq2 m)
 unfolding atFetch interrupted irq2Raised
 lengths-at-fetch irq2 m =
-    and-then m (irq2Raised irq2 m) _ (either m (isIn (m .core .age) irq2) same same)
-    (either (irq2Raised irq2 m) (isAsked (irq2Raised irq2 m) && eqb (irq2Raised irq2 m .core .handler) 0) same same)
+    and-then m (irq2Raised irq2 m) _ (either (KeepsLengths m) (isIn (m .core .age) irq2) same same)
+    (either (KeepsLengths (irq2Raised irq2 m)) (isAsked (irq2Raised irq2 m) && eqb (irq2Raised irq2 m .core .handler) 0) same same)
 
 lengths-copied : (command : ℕ) (m : Machine) → KeepsLengths m (copied command m)
 unfolding put
 lengths-copied command m =
-    either m (eqb command 1)
+    either (KeepsLengths m) (eqb command 1)
     (record { memory = length-sets (m .memory) (ioAt diskbuffer m) (sector m); disk = refl; frame = refl })
     (record { memory = refl; disk = length-sets (m .disk) (128 * ioAt disksector m) (buffer m); frame = refl })
 
@@ -57,41 +53,41 @@ lengths-commanded : (low : ℕ) (m : Machine) → KeepsLengths m (commanded low 
 unfolding commanded
 lengths-commanded low m =
     let moved = lengths-copied low m in
-    either m (isFree m)
-    (either m (isReadOrWrite low)
-    (either m (leb (ioAt diskbuffer m) 3968) (record { memory = moved .memory; disk = moved .disk; frame = moved .frame }) same) same)
+    either (KeepsLengths m) (isFree m)
+    (either (KeepsLengths m) (isReadOrWrite low)
+    (either (KeepsLengths m) (leb (ioAt diskbuffer m) 3968) (record { memory = moved .memory; disk = moved .disk; frame = moved .frame }) same) same)
     same
 
 lengths-painted : (x : ℕ) (m : Machine) → KeepsLengths m (painted x m)
 unfolding painted
 lengths-painted x m =
-    either m (eqb (x % 2) 1)
+    either (KeepsLengths m) (eqb (x % 2) 1)
     (record { memory = refl; disk = refl; frame = length-set (m .frame) (ioAt monitoraddr m) (ioAt monitordata m) })
     same
 
 lengths-outputted : (a x : ℕ) (m : Machine) → KeepsLengths m (outputted a x m)
 unfolding outputted
 lengths-outputted a x m =
-    let rest = either m (eqb a diskstatus) same (either m (eqb a monitorcmd) (lengths-painted x m) same) in
-    either m (eqb a diskcmd) (lengths-commanded (x % 4) m) (record { memory = rest .memory; disk = rest .disk; frame = rest .frame })
+    let rest = either (KeepsLengths m) (eqb a diskstatus) same (either (KeepsLengths m) (eqb a monitorcmd) (lengths-painted x m) same) in
+    either (KeepsLengths m) (eqb a diskcmd) (lengths-commanded (x % 4) m) (record { memory = rest .memory; disk = rest .disk; frame = rest .frame })
 
 lengths-executed : (k : Operation) (o : Operands) (m : Machine) → KeepsLengths m (executed k o m)
 unfolding executed
 lengths-executed (calculate k) o m = same
 lengths-executed (branch k) o m =
-    either m (holds k (o .rs) (o .rt)) same same
+    either (KeepsLengths m) (holds k (o .rs) (o .rt)) same same
 lengths-executed jal o m = same
 lengths-executed lw o m =
-    either m (ltb (address o) 4096) same same
+    either (KeepsLengths m) (ltb (address o) 4096) same same
 lengths-executed sw o m =
-    either m (ltb (address o) 4096)
+    either (KeepsLengths m) (ltb (address o) 4096)
     (record { memory = length-set (m .memory) (address o) (plus (o .rm) (o .rd)); disk = refl; frame = refl })
     same
 lengths-executed reti o m = same
 lengths-executed input o m =
-    either m (isListed (address o)) same same
+    either (KeepsLengths m) (isListed (address o)) same same
 lengths-executed output o m =
-    either m (isListed (address o)) (lengths-outputted (address o) (o .rm) m) same
+    either (KeepsLengths m) (isListed (address o)) (lengths-outputted (address o) (o .rm) m) same
 lengths-executed halt o m = same
 lengths-executed unknown o m = same
 
@@ -132,56 +128,52 @@ pub record Fits (m : Machine) : Type 0 where
 fits : {m : Machine} {c : Core} {regs io : List ℕ} → Fits m → Fits (record { core = c; regs = regs; io = io; memory = m .memory; disk = m .disk; frame = m .frame })
 fits h = record { memory = h .memory; disk = h .disk; frame = h .frame }
 
-one-of : (t : Bool) {a b : Machine} → Fits a → Fits b → Fits (cond t a b)
-one-of true p q = p
-one-of false p q = q
-
 fits-at-fetch : (irq2 : List ℕ) (m : Machine) → Fits m → Fits (atFetch irq2 m)
 unfolding atFetch interrupted irq2Raised
 fits-at-fetch irq2 m h =
-    let raised = one-of (isIn (m .core .age) irq2) (fits h) h in
-    one-of (isAsked (irq2Raised irq2 m) && eqb (irq2Raised irq2 m .core .handler) 0) (fits raised) raised
+    let raised = either Fits (isIn (m .core .age) irq2) (fits h) h in
+    either Fits (isAsked (irq2Raised irq2 m) && eqb (irq2Raised irq2 m .core .handler) 0) (fits raised) raised
 
 fits-copied : (command : ℕ) (m : Machine) → Fits m → Fits (copied command m)
 unfolding put
 fits-copied command m h =
     let from-disk = below-part (2 ^ 32) 128 (128 * ioAt disksector m) (m .disk) (h .disk) in
     let from-memory = below-part (2 ^ 32) 128 (ioAt diskbuffer m) (m .memory) (h .memory) in
-    one-of (eqb command 1)
+    either Fits (eqb command 1)
     (record { memory = below-sets (2 ^ 32) (m .memory) (ioAt diskbuffer m) (sector m) (h .memory) from-disk; disk = h .disk; frame = h .frame })
     (record { memory = h .memory; disk = below-sets (2 ^ 32) (m .disk) (128 * ioAt disksector m) (buffer m) (h .disk) from-memory; frame = h .frame })
 
 fits-commanded : (low : ℕ) (m : Machine) → Fits m → Fits (commanded low m)
 unfolding commanded
 fits-commanded low m h =
-    one-of (isFree m) (one-of (isReadOrWrite low) (one-of (leb (ioAt diskbuffer m) 3968) (fits (fits-copied low m h)) (fits h)) (fits h)) (fits h)
+    either Fits (isFree m) (either Fits (isReadOrWrite low) (either Fits (leb (ioAt diskbuffer m) 3968) (fits (fits-copied low m h)) (fits h)) (fits h)) (fits h)
 
 fits-painted : (x : ℕ) (m : Machine) → ioAt monitordata m < 2 ^ 8 → Fits m → Fits (painted x m)
 unfolding painted
 fits-painted x m byte h =
-    one-of (eqb (x % 2) 1)
+    either Fits (eqb (x % 2) 1)
     (record { memory = h .memory; disk = h .disk; frame = holds-after (m .frame) (ioAt monitoraddr m) (ioAt monitordata m) (λ k v. v < 2 ^ 8) (h .frame) byte })
     h
 
 fits-outputted : (a x : ℕ) (m : Machine) → ioAt monitordata m < 2 ^ 8 → Fits m → Fits (outputted a x m)
 unfolding outputted
 fits-outputted a x m byte h =
-    one-of (eqb a diskcmd) (fits-commanded (x % 4) m h)
-    (fits (one-of (eqb a diskstatus) h (one-of (eqb a monitorcmd) (fits-painted x m byte h) (fits h))))
+    either Fits (eqb a diskcmd) (fits-commanded (x % 4) m h)
+    (fits (either Fits (eqb a diskstatus) h (either Fits (eqb a monitorcmd) (fits-painted x m byte h) (fits h))))
 
 fits-executed : (k : Operation) (o : Operands) (m : Machine) → ioAt monitordata m < 2 ^ 8 → Fits m → Fits (executed k o m)
 unfolding executed
 fits-executed (calculate k) o m byte h = fits h
-fits-executed (branch k) o m byte h = one-of (holds k (o .rs) (o .rt)) (fits h) (fits h)
+fits-executed (branch k) o m byte h = either Fits (holds k (o .rs) (o .rt)) (fits h) (fits h)
 fits-executed jal o m byte h = fits h
-fits-executed lw o m byte h = one-of (ltb (address o) 4096) (fits h) (fits h)
+fits-executed lw o m byte h = either Fits (ltb (address o) 4096) (fits h) (fits h)
 fits-executed sw o m byte h =
-    one-of (ltb (address o) 4096)
+    either Fits (ltb (address o) 4096)
     (record { memory = holds-after (m .memory) (address o) (plus (o .rm) (o .rd)) (λ k v. v < 2 ^ 32) (h .memory) (wrapped _); disk = h .disk; frame = h .frame })
     (fits h)
 fits-executed reti o m byte h = fits h
-fits-executed input o m byte h = one-of (isListed (address o)) (fits h) (fits h)
-fits-executed output o m byte h = one-of (isListed (address o)) (fits-outputted (address o) (o .rm) m byte h) (fits h)
+fits-executed input o m byte h = either Fits (isListed (address o)) (fits h) (fits h)
+fits-executed output o m byte h = either Fits (isListed (address o)) (fits-outputted (address o) (o .rm) m byte h) (fits h)
 fits-executed halt o m byte h = fits h
 fits-executed unknown o m byte h = fits h
 

@@ -24,16 +24,13 @@ use Rattle.machine.specs.Cycle.{acceptsCommand, atFetch, timerStepped, d
 use Rattle.machine.specs.Soundness.{keptBits, SoundTo}
 use Rattle.machine.proofs.SoundParts.{power-pos, holds-after, sound-io, sound-core, sound-set, sound-core-to, kept-le, wrapped, sign-lt, calculated-lt}
 use Rattle.machine.proofs.DiskLaws.{command-free, left-at-fetch, accepted-left, busy-left}
+use Rattle.machine.proofs.Choice.{either}
 
 -- ---- the machine
 
 -- The machine's record is sound, its age below a limit.
 pub record SoundMachine (limit : ℕ) (m : Machine) : Type 0 where
   pub record-is : SoundTo limit (m .core) (m .regs) (m .io)
-
-either : (limit : ℕ) (t : Bool) {a b : Machine} → SoundMachine limit a → SoundMachine limit b → SoundMachine limit (cond t a b)
-either limit true p q = p
-either limit false p q = q
 
 module _ (limit : ℕ) where
   pc-set : (m : Machine) (x : ℕ) → x < 2 ^ 12 → SoundMachine limit m → SoundMachine limit (withPc x m)
@@ -88,9 +85,9 @@ module _ (limit : ℕ) where
   pub sound-at-fetch : (irq2 : List ℕ) (m : Machine) → SoundMachine limit m → SoundMachine limit (atFetch irq2 m)
   unfolding atFetch interrupted irq2Raised ioBits
   sound-at-fetch irq2 m s =
-      let raised = either limit (isIn (m .core .age) irq2) (io-put m irq2status 1 (omega arith) (λ e. omega arith) (λ e. omega arith) s) s in
+      let raised = either (SoundMachine limit) (isIn (m .core .age) irq2) (io-put m irq2status 1 (omega arith) (λ e. omega arith) (λ e. omega arith) s) s in
       let r = irq2Raised irq2 m in
-      either limit (isAsked r && eqb (r .core .handler) 0)
+      either (SoundMachine limit) (isAsked r && eqb (r .core .handler) 0)
       (handler-set _ 1 (omega arith)
       (pc-set _ (ioAt irqhandler r) (raised .record-is .fitting irqhandler)
       (io-put r irqreturn (r .core .pc) (raised .record-is .core .pc) (λ e. omega arith) (λ e. omega arith) raised)))
@@ -109,7 +106,7 @@ module _ (limit : ℕ) where
   sound-begun : (m : Machine) (low : ℕ) → 1 ≤ low → low ≤ 2 → SoundMachine limit m → SoundMachine limit (begun low m)
   unfolding ioBits
   sound-begun m low some few s =
-      let moved = either limit (eqb low 1) (record { record-is = s .record-is }) (record { record-is = s .record-is }) in
+      let moved = either (SoundMachine limit) (eqb low 1) (record { record-is = s .record-is }) (record { record-is = s .record-is }) in
       build (copied low m) moved
     where
       build : (d : Machine) → SoundMachine limit d → SoundMachine limit (withLeft 1024 (putIo diskstatus 1 (putIo diskcmd low d)))
@@ -172,7 +169,7 @@ module _ (limit : ℕ) where
       go true e true q =
           let some = leb-true 1 low (and-left (leb 1 low) (leb low 2) q) in
           let few = leb-true low 2 (and-right (leb 1 low) (leb low 2) q) in
-          either limit (leb (ioAt diskbuffer m) 3968) (went-on _ (sound-begun m low some few s)) (status-set m 5 (omega arith) s)
+          either (SoundMachine limit) (leb (ioAt diskbuffer m) 3968) (went-on _ (sound-begun m low some few s)) (status-set m 5 (omega arith) s)
       go true e false q = went-on _ (sound-cleared m e s)
       go false e b q = went-on m s
 
@@ -184,23 +181,23 @@ module _ (limit : ℕ) where
           → SoundMachine limit (cond t (commanded (x % 4) m) (onward (cond u m (cond v (painted x m) (putIo a (x % 2 ^ ioBits a) m)))))
       go true e u f v g = sound-commanded (x % 4) m s
       go false e true f v g = went-on m s
-      go false e false f true g = went-on _ (either limit (eqb (x % 2) 1) (record { record-is = s .record-is }) s)
+      go false e false f true g = went-on _ (either (SoundMachine limit) (eqb (x % 2) 1) (record { record-is = s .record-is }) s)
       go false e false f false g = went-on _ (io-put m a (x % 2 ^ ioBits a) (rw g (mod-lt x (power-pos (ioBits a)))) (eqb-false a diskcmd e) (eqb-false a diskstatus f) s)
 
   -- Each operation, on operands that are words.
   sound-executed : (k : Operation) (o : Operands) (m : Machine) → o .rs < 2 ^ 32 → o .rt < 2 ^ 32 → o .rm < 2 ^ 32 → SoundMachine limit m → SoundMachine limit (executed k o m)
   unfolding executed ioBits
   sound-executed (calculate k) o m hs ht hm s = went-on _ (register-put m (o .target) _ (calculated-lt k (o .rs) (o .rt) (o .rm) hs ht hm) s)
-  sound-executed (branch k) o m hs ht hm s = either limit (holds k (o .rs) (o .rt)) (jumped-to m (o .rm) s) (went-on m s)
+  sound-executed (branch k) o m hs ht hm s = either (SoundMachine limit) (holds k (o .rs) (o .rt)) (jumped-to m (o .rm) s) (went-on m s)
   sound-executed jal o m hs ht hm s = jumped-to _ (o .rm) (register-put m (o .target) ((m .core .pc + 1) % 4096) (omega arith) s)
   sound-executed lw o m hs ht hm s =
-      either limit (ltb (address o) 4096) (went-on _ (register-put m (o .target) _ (wrapped _) s)) (status-set m 3 (omega arith) s)
+      either (SoundMachine limit) (ltb (address o) 4096) (went-on _ (register-put m (o .target) _ (wrapped _) s)) (status-set m 3 (omega arith) s)
   sound-executed sw o m hs ht hm s =
-      either limit (ltb (address o) 4096) (went-on _ (record { record-is = s .record-is })) (status-set m 3 (omega arith) s)
+      either (SoundMachine limit) (ltb (address o) 4096) (went-on _ (record { record-is = s .record-is })) (status-set m 3 (omega arith) s)
   sound-executed reti o m hs ht hm s = handler-set _ 0 (omega arith) (pc-set m (ioAt irqreturn m) (s .record-is .fitting irqreturn) s)
   sound-executed input o m hs ht hm s =
-      either limit (isListed (address o)) (went-on _ (register-put m (o .target) (ioAt (address o) m) (io-word m (address o) s) s)) (status-set m 4 (omega arith) s)
-  sound-executed output o m hs ht hm s = either limit (isListed (address o)) (sound-outputted (address o) (o .rm) m s) (status-set m 4 (omega arith) s)
+      either (SoundMachine limit) (isListed (address o)) (went-on _ (register-put m (o .target) (ioAt (address o) m) (io-word m (address o) s) s)) (status-set m 4 (omega arith) s)
+  sound-executed output o m hs ht hm s = either (SoundMachine limit) (isListed (address o)) (sound-outputted (address o) (o .rm) m s) (status-set m 4 (omega arith) s)
   sound-executed halt o m hs ht hm s = status-set m 1 (omega arith) s
   sound-executed unknown o m hs ht hm s = status-set m 2 (omega arith) s
 

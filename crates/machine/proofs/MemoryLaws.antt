@@ -169,7 +169,7 @@ fits-executed jal o m byte h = fits h
 fits-executed lw o m byte h = either Fits (ltb (address o) 4096) (fits h) (fits h)
 fits-executed sw o m byte h =
     either Fits (ltb (address o) 4096)
-    (record { memory = holds-after (m .memory) (address o) (plus (o .rm) (o .rd)) (λ k v. v < 2 ^ 32) (h .memory) (wrapped _); disk = h .disk; frame = h .frame })
+    (record { memory = holds-after (m .memory) (address o) (plus (o .rm) (o .rd)) (λ k v. v < 2 ^ 32) (h .memory) (wrapped 32 _); disk = h .disk; frame = h .frame })
     (fits h)
 fits-executed reti o m byte h = fits h
 fits-executed input o m byte h = either Fits (isListed (address o)) (fits h) (fits h)

@@ -3,7 +3,7 @@ use Prim.Native.Nat.{ℕ, zero, suc, _+_, _-_, _%_, _^_, _≤_, _<_}
 use mathlib.Core.Path.{_≡_, refl, _∙_}
 use mathlib.Core.Bool.{Bool, true, false, cond, _&&_, not}
 use mathlib.Core.List.{List}
-use native.Mathlib.Nat.{mod-lt, lt-of-lt-of-le}
+use native.Mathlib.Nat.{lt-of-lt-of-le}
 use native.Mathlib.Omega.{arith}
 use lib.ListN.{length, getD, set, length-set}
 use lib.Dec.{eqb, leb, ltb}
@@ -22,7 +22,7 @@ use Rattle.machine.specs.Interrupts.{isIn, isAsked, irq2Raised, interrup
 use Rattle.machine.specs.Execution.{Operands, fetched, operandsOf, address, isFree, isReadOrWrite, onward, jumped, ended, copied, begun, commanded, painted, outputted, executed, fetchedAndExecuted}
 use Rattle.machine.specs.Cycle.{acceptsCommand, atFetch, timerStepped, diskStepped, counted, cycle}
 use Rattle.machine.specs.Soundness.{keptBits, SoundTo}
-use Rattle.machine.proofs.SoundParts.{power-pos, holds-after, sound-io, sound-core, sound-set, sound-core-to, kept-le, wrapped, sign-lt, calculated-lt}
+use Rattle.machine.proofs.SoundParts.{holds-after, sound-io, sound-core, sound-set, sound-core-to, kept-le, wrapped, sign-lt, calculated-lt}
 use Rattle.machine.proofs.DiskLaws.{command-free, left-at-fetch, accepted-left, busy-left}
 use Rattle.machine.proofs.Choice.{either}
 
@@ -182,7 +182,7 @@ module _ (limit : ℕ) where
       go true e u f v g = sound-commanded (x % 4) m s
       go false e true f v g = went-on m s
       go false e false f true g = went-on _ (either (SoundMachine limit) (eqb (x % 2) 1) (record { record-is = s .record-is }) s)
-      go false e false f false g = went-on _ (io-put m a (x % 2 ^ ioBits a) (rw g (mod-lt x (power-pos (ioBits a)))) (eqb-false a diskcmd e) (eqb-false a diskstatus f) s)
+      go false e false f false g = went-on _ (io-put m a (x % 2 ^ ioBits a) (rw g (wrapped (ioBits a) x)) (eqb-false a diskcmd e) (eqb-false a diskstatus f) s)
 
   -- Each operation, on operands that are words.
   sound-executed : (k : Operation) (o : Operands) (m : Machine) → o .rs < 2 ^ 32 → o .rt < 2 ^ 32 → o .rm < 2 ^ 32 → SoundMachine limit m → SoundMachine limit (executed k o m)
@@ -191,7 +191,7 @@ module _ (limit : ℕ) where
   sound-executed (branch k) o m hs ht hm s = either (SoundMachine limit) (holds k (o .rs) (o .rt)) (jumped-to m (o .rm) s) (went-on m s)
   sound-executed jal o m hs ht hm s = jumped-to _ (o .rm) (register-put m (o .target) ((m .core .pc + 1) % 4096) (omega arith) s)
   sound-executed lw o m hs ht hm s =
-      either (SoundMachine limit) (ltb (address o) 4096) (went-on _ (register-put m (o .target) _ (wrapped _) s)) (status-set m 3 (omega arith) s)
+      either (SoundMachine limit) (ltb (address o) 4096) (went-on _ (register-put m (o .target) _ (wrapped 32 _) s)) (status-set m 3 (omega arith) s)
   sound-executed sw o m hs ht hm s =
       either (SoundMachine limit) (ltb (address o) 4096) (went-on _ (record { record-is = s .record-is })) (status-set m 3 (omega arith) s)
   sound-executed reti o m hs ht hm s = handler-set _ 0 (omega arith) (pc-set m (ioAt irqreturn m) (s .record-is .fitting irqreturn) s)
@@ -222,7 +222,7 @@ module _ (limit : ℕ) where
       go true true =
           io-put (putIo irq0status 1 m) timercurrent 0 (omega arith) (λ e. omega arith) (λ e. omega arith)
           (io-put m irq0status 1 (omega arith) (λ e. omega arith) (λ e. omega arith) s)
-      go true false = io-put m timercurrent _ (wrapped _) (λ e. omega arith) (λ e. omega arith) s
+      go true false = io-put m timercurrent _ (wrapped 32 _) (λ e. omega arith) (λ e. omega arith) s
       go false b = record { record-is = s .record-is }
 
   sound-disk : (began : ℕ) (m : Machine) → SoundMachine limit m → SoundMachine limit (diskStepped began m)
@@ -271,7 +271,7 @@ module _ (limit : ℕ) where
   sound-counted : (m : Machine) → SoundMachine limit m → SoundMachine (limit + 1) (counted m)
   unfolding counted ioBits
   sound-counted m s =
-      let r = io-put m clks (plus (ioAt clks m) 1) (wrapped _) (λ e. omega arith) (λ e. omega arith) s .record-is in
+      let r = io-put m clks (plus (ioAt clks m) 1) (wrapped 32 _) (λ e. omega arith) (λ e. omega arith) s .record-is in
       let k = r .core in
       record {
         record-is =

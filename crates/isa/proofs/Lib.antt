@@ -1,3 +1,4 @@
 -- Laws that belong to no one function.
 pub mod IoLaws
+pub mod OperationLaws
 pub mod WordLaws

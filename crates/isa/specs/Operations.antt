@@ -1,6 +1,6 @@
 -- "Opcodes from 0: add sub mac and or xor sll sra srl beq bne blt bgt ble bge jal lw sw reti in out halt (21)."
-use Prim.Native.Nat.{ℕ}
-use mathlib.Core.List.{List, [], _∷_}
+use Prim.Native.Nat.{ℕ, _-_}
+use mathlib.Core.List.{List, [], _∷_, _++_, map}
 use lib.ListN.{getD}
 use Rattle.text.specs.Bytes.{bytes}
 
@@ -17,36 +17,29 @@ pub data Operation : Type 0 where
   branch : Comparison → Operation
   jal lw sw reti input output halt unknown : Operation
 
-operations : List Operation
-operations =
-    calculate add
-    ∷ calculate sub
-    ∷ calculate mac
-    ∷ calculate and
-    ∷ calculate or
-    ∷ calculate xor
-    ∷ calculate sll
-    ∷ calculate sra
-    ∷ calculate srl
-    ∷ branch beq
-    ∷ branch bne
-    ∷ branch blt
-    ∷ branch bgt
-    ∷ branch ble
-    ∷ branch bge
-    ∷ jal
-    ∷ lw
-    ∷ sw
-    ∷ reti
-    ∷ input
-    ∷ output
-    ∷ halt
-    ∷ []
+unfoldable pub calculations : List Calculation
+calculations = add ∷ sub ∷ mac ∷ and ∷ or ∷ xor ∷ sll ∷ sra ∷ srl ∷ []
+
+unfoldable pub comparisons : List Comparison
+comparisons = beq ∷ bne ∷ blt ∷ bgt ∷ ble ∷ bge ∷ []
+
+unfoldable pub operations : List Operation
+unfolding calculations comparisons
+operations = map calculate calculations ++ map branch comparisons ++ (jal ∷ lw ∷ sw ∷ reti ∷ input ∷ output ∷ halt ∷ [])
 
 -- The operation of an opcode; above 21 there is none.
 unfoldable pub operationOf : ℕ → Operation
 unfolding operations
 operationOf n = getD operations n unknown
+
+-- The calculation of an opcode from 0 to 8, and the comparison of one from 9 to 14.
+unfoldable pub calculationOf : ℕ → Calculation
+unfolding calculations
+calculationOf n = getD calculations n add
+
+unfoldable pub comparisonOf : ℕ → Comparison
+unfolding comparisons
+comparisonOf n = getD comparisons (n - 9) beq
 
 -- The names, by opcode.
 unfoldable pub operationNames : List (List ℕ)

@@ -7,7 +7,7 @@ pub use devices::numbers::TIMERCURRENT;
 pub use devices::numbers::TIMERENABLE;
 pub use devices::numbers::TIMERMAX;
 ghost use mathlib.Core.Path.{_≡_};
-ghost use Prim.Native.Nat.{_≤_, _<_};
+ghost use Prim.Native.Nat.{_%_, _^_, _≤_, _<_};
 ghost use lib.ListN.{length};
 ghost use Rattle.isa.specs.Registers.{isListed, ioBits, ioName};
 
@@ -92,6 +92,48 @@ fn monitor_bits(n: u32) -> u32
         20 => 16,
         21 => 8,
         _ => 1,
+    }
+}
+
+// What a register keeps of a value: the low bits of its width.
+pub fn keep(n: u32, x: u32) -> u32
+    ensures { λ r. ⌜ r ≡ x % 2 ^ ioBits n ⌝ }
+{
+    match n {
+        0..=5 => x % 2,
+        6..=7 => x % 4096,
+        8..=10 => x,
+        11..=17 => keep_in_device(n, x),
+        20..=22 => keep_in_monitor(n, x),
+        _ => 0,
+    }
+}
+
+// What the timer's and the disk's registers keep, 11 to 17.
+fn keep_in_device(n: u32, x: u32) -> u32
+    requires { ⌜ (11 ≤ n) × (n < 18) ⌝ }
+    ensures { λ r. ⌜ r ≡ x % 2 ^ ioBits n ⌝ }
+{
+    match n {
+        11 => x % 2,
+        12 => x,
+        13 => x,
+        14 => x % 4,
+        15 => x % 128,
+        16 => x % 4096,
+        _ => x % 2,
+    }
+}
+
+// What the monitor's registers keep, 20 to 22.
+fn keep_in_monitor(n: u32, x: u32) -> u32
+    requires { ⌜ (20 ≤ n) × (n < 23) ⌝ }
+    ensures { λ r. ⌜ r ≡ x % 2 ^ ioBits n ⌝ }
+{
+    match n {
+        20 => x % 65536,
+        21 => x % 256,
+        _ => x % 2,
     }
 }
 

@@ -1,7 +1,7 @@
 -- A disk command and its 1,024 cycles. Assumes nothing.
 use Prim.Native.Nat.{ℕ, _-_, _%_, _<_}
 use mathlib.Core.Path.{_≡_, refl, _∙_, ap}
-use mathlib.Core.Bool.{true, false, _&&_, false≢true}
+use mathlib.Core.Bool.{Bool, true, false, _&&_, false≢true}
 use mathlib.Core.List.{List}
 use lib.Dec.{eqb, leb, ltb}
 use borrow.Author.Tests.{eqb-true, lt-ltb}
@@ -10,11 +10,12 @@ use Rattle.devices.specs.Disk.{leftAfter}
 use Rattle.isa.specs.Word.{fieldsOf}
 use Rattle.isa.specs.Operations.{Operation, operationOf, calculate, branch, jal, lw, sw, reti, input, output, halt, unknown}
 use Rattle.isa.specs.Registers.{isListed, ioBits, diskcmd, diskstatus, diskbuffer, monitorcmd}
-use Rattle.machine.specs.Words.{holds}
+use Rattle.words.specs.Words.{holds}
 use Rattle.machine.specs.State.{Machine, ioAt}
-use Rattle.machine.specs.Interrupts.{isIn, isAsked, irq2Raised, interrupted}
-use Rattle.machine.specs.Execution.{Operands, fetched, operandsOf, address, isFree, isReadOrWrite, onward, commanded, painted, outputted, executed, fetchedAndExecuted}
-use Rattle.machine.specs.Cycle.{isOutput, timerStepped, diskStepped, counted, atFetch, cycle, isCommand, acceptsCommand}
+use Rattle.machine.specs.Interrupts.{isAsked, irq2Raised, interrupted}
+use Rattle.machine.specs.declared.Operands.{Operands}
+use Rattle.machine.specs.Execution.{fetched, operandsOf, address, isFree, isReadOrWrite, onward, accepted, commanded, painted, outputted, executed, fetchedAndExecuted}
+use Rattle.machine.specs.Cycle.{isOutput, timerStepped, diskStepped, counted, atFetch, stepped, isCommand, acceptsAtFetch}
 use Rattle.machine.proofs.Choice.{either}
 
 -- s has the cycles to go that m has.
@@ -25,16 +26,16 @@ and-onward : (m s : Machine) → KeepsLeft m s → KeepsLeft m (onward s)
 and-onward m s k = record { same = k .same }
 
 -- Steps 1 and 2 don't change left.
-pub left-at-fetch : (irq2 : List ℕ) (m : Machine) → KeepsLeft m (atFetch irq2 m)
+pub left-at-fetch : (hit : Bool) (m : Machine) → KeepsLeft m (atFetch hit m)
 unfolding atFetch interrupted irq2Raised
-left-at-fetch irq2 m =
-    let entry = either (KeepsLeft (irq2Raised irq2 m)) (isAsked (irq2Raised irq2 m) && eqb (irq2Raised irq2 m .core .handler) 0) (record { same = refl }) (record { same = refl }) in
-    let raised = either (KeepsLeft m) (isIn (m .core .age) irq2) (record { same = refl }) (record { same = refl }) in
+left-at-fetch hit m =
+    let entry = either (KeepsLeft (irq2Raised hit m)) (isAsked (irq2Raised hit m .io) && eqb (irq2Raised hit m .core .handler) 0) (record { same = refl }) (record { same = refl }) in
+    let raised = either (KeepsLeft m) (hit) (record { same = refl }) (record { same = refl }) in
     record { same = entry .same ∙ raised .same }
 
 -- While the disk is busy no instruction changes left.
 left-kept : (k : Operation) (o : Operands) (m : Machine) → isFree m ≡ false → KeepsLeft m (executed k o m)
-unfolding executed outputted commanded painted
+unfolding executed outputted commanded accepted painted
 left-kept (calculate k) o m busy = record { same = refl }
 left-kept (branch k) o m busy = either (KeepsLeft m) (holds k (o .rs) (o .rt)) (record { same = refl }) (record { same = refl })
 left-kept jal o m busy = record { same = refl }
@@ -55,7 +56,7 @@ left-kept unknown o m busy = record { same = refl }
 
 -- A command that is accepted leaves 1,024 cycles to go.
 command-left : (k : Operation) (o : Operands) (m : Machine) → isCommand k o m ≡ true → executed k o m .core .left ≡ 1024
-unfolding isCommand executed outputted commanded ioBits
+unfolding isCommand executed outputted commanded accepted ioBits
 command-left (calculate k) o m h = absurd (false≢true h)
 command-left (branch k) o m h = absurd (false≢true h)
 command-left jal o m h = absurd (false≢true h)
@@ -85,22 +86,22 @@ command-free k o m h =
 -- ---- over a whole cycle
 
 -- "left = 1024": a cycle that accepts a command while no cycles were to go.
-pub accepted-left : (image irq2 : List ℕ) (m : Machine) → m .core .left ≡ 0 → acceptsCommand image irq2 m ≡ true → cycle image irq2 m .core .left ≡ 1024
-unfolding acceptsCommand cycle counted diskStepped timerStepped fetchedAndExecuted
-accepted-left image irq2 m idle h =
-    let s = atFetch irq2 m in
+pub accepted-left : (image : List ℕ) (hit : Bool) (m : Machine) → m .core .left ≡ 0 → acceptsAtFetch image (atFetch hit m) ≡ true → stepped image hit m .core .left ≡ 1024
+unfolding acceptsAtFetch stepped counted diskStepped timerStepped fetchedAndExecuted
+accepted-left image hit m idle h =
+    let s = atFetch hit m in
     let f = fieldsOf (fetched image s) in
     let k = operationOf (f .op) in
     let o = operandsOf f s in
     ap (λ (n : ℕ). leftAfter n (executed k o s .core .left)) idle ∙ command-left k o s h
 
 -- Each later cycle takes one: a cycle that finds the disk busy at step 3.
-pub busy-left : (image irq2 : List ℕ) (m : Machine) → 0 < m .core .left → isFree (atFetch irq2 m) ≡ false → cycle image irq2 m .core .left ≡ m .core .left - 1
-unfolding cycle counted diskStepped timerStepped fetchedAndExecuted
-busy-left image irq2 m going busy =
-    let s = atFetch irq2 m in
+pub busy-left : (image : List ℕ) (hit : Bool) (m : Machine) → 0 < m .core .left → isFree (atFetch hit m) ≡ false → stepped image hit m .core .left ≡ m .core .left - 1
+unfolding stepped counted diskStepped timerStepped fetchedAndExecuted
+busy-left image hit m going busy =
+    let s = atFetch hit m in
     let f = fieldsOf (fetched image s) in
     let k = operationOf (f .op) in
     let o = operandsOf f s in
-    let unchanged = left-kept k o s busy .same ∙ left-at-fetch irq2 m .same in
+    let unchanged = left-kept k o s busy .same ∙ left-at-fetch hit m .same in
     rw (lt-ltb 0 (m .core .left) going) (ap (λ (n : ℕ). n - 1) unchanged)

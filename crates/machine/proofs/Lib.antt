@@ -1,5 +1,8 @@
 -- Laws of the plain machine.
 pub mod Choice
+pub mod PackLaws
+pub mod RegisterLaws
+pub mod CopyLaws
 pub mod DiskLaws
 pub mod LineLaws
 pub mod Irq2Laws

@@ -1,7 +1,7 @@
 -- A cycle keeps the lengths of the data memory, the disk and the frame, and the range of what they hold. Assumes nothing.
 use Prim.Native.Nat.{ℕ, zero, suc, _+_, _*_, _%_, _^_, _<_}
 use mathlib.Core.Path.{_≡_, refl, _∙_}
-use mathlib.Core.Bool.{_&&_}
+use mathlib.Core.Bool.{Bool, _&&_}
 use mathlib.Core.List.{List, [], _∷_}
 use native.Mathlib.Omega.{arith}
 use lib.Dec.{eqb, leb, ltb}
@@ -11,12 +11,13 @@ use Rattle.text.specs.Place.{put}
 use Rattle.isa.specs.Word.{fieldsOf}
 use Rattle.isa.specs.Operations.{Operation, operationOf, calculate, branch, jal, lw, sw, reti, input, output, halt, unknown}
 use Rattle.isa.specs.Registers.{isListed, ioBits, diskcmd, diskstatus, diskbuffer, disksector, monitorcmd, monitoraddr, monitordata}
-use Rattle.machine.specs.Words.{holds, plus}
+use Rattle.words.specs.Words.{holds, plus}
 use Rattle.machine.specs.declared.Core.{Core}
 use Rattle.machine.specs.State.{Machine, ioAt}
-use Rattle.machine.specs.Interrupts.{isIn, isAsked, irq2Raised, interrupted}
-use Rattle.machine.specs.Execution.{Operands, fetched, operandsOf, address, isFree, isReadOrWrite, sector, buffer, copied, commanded, painted, outputted, executed, fetchedAndExecuted}
-use Rattle.machine.specs.Cycle.{timerStepped, diskStepped, counted, atFetch, cycle}
+use Rattle.machine.specs.Interrupts.{isAsked, irq2Raised, interrupted}
+use Rattle.machine.specs.declared.Operands.{Operands}
+use Rattle.machine.specs.Execution.{fetched, operandsOf, address, isFree, isReadOrWrite, sector, buffer, copied, accepted, commanded, painted, outputted, executed, fetchedAndExecuted}
+use Rattle.machine.specs.Cycle.{timerStepped, diskStepped, counted, atFetch, stepped}
 use Rattle.machine.specs.Soundness.{Sound}
 use Rattle.machine.proofs.SoundParts.{holds-after, wrapped}
 use Rattle.machine.proofs.SoundLaws.{sound-at-fetch}
@@ -36,11 +37,11 @@ and-then : (m s t : Machine) → KeepsLengths m s → KeepsLengths s t → Keeps
 and-then m s t a b =
     record { memory = b .memory ∙ a .memory; disk = b .disk ∙ a .disk; frame = b .frame ∙ a .frame }
 
-lengths-at-fetch : (irq2 : List ℕ) (m : Machine) → KeepsLengths m (atFetch irq2 m)
+lengths-at-fetch : (hit : Bool) (m : Machine) → KeepsLengths m (atFetch hit m)
 unfolding atFetch interrupted irq2Raised
-lengths-at-fetch irq2 m =
-    and-then m (irq2Raised irq2 m) _ (either (KeepsLengths m) (isIn (m .core .age) irq2) same same)
-    (either (KeepsLengths (irq2Raised irq2 m)) (isAsked (irq2Raised irq2 m) && eqb (irq2Raised irq2 m .core .handler) 0) same same)
+lengths-at-fetch hit m =
+    and-then m (irq2Raised hit m) _ (either (KeepsLengths m) (hit) same same)
+    (either (KeepsLengths (irq2Raised hit m)) (isAsked (irq2Raised hit m .io) && eqb (irq2Raised hit m .core .handler) 0) same same)
 
 lengths-copied : (command : ℕ) (m : Machine) → KeepsLengths m (copied command m)
 unfolding put
@@ -50,7 +51,7 @@ lengths-copied command m =
     (record { memory = refl; disk = length-sets (m .disk) (128 * ioAt disksector m) (buffer m); frame = refl })
 
 lengths-commanded : (low : ℕ) (m : Machine) → KeepsLengths m (commanded low m)
-unfolding commanded
+unfolding commanded accepted
 lengths-commanded low m =
     let moved = lengths-copied low m in
     either (KeepsLengths m) (isFree m)
@@ -92,12 +93,12 @@ lengths-executed halt o m = same
 lengths-executed unknown o m = same
 
 -- Over a whole cycle.
-pub lengths-kept : (image irq2 : List ℕ) (m : Machine) → KeepsLengths m (cycle image irq2 m)
-unfolding cycle counted diskStepped timerStepped fetchedAndExecuted
-lengths-kept image irq2 m =
-    let s = atFetch irq2 m in
+pub lengths-kept : (image : List ℕ) (hit : Bool) (m : Machine) → KeepsLengths m (stepped image hit m)
+unfolding stepped counted diskStepped timerStepped fetchedAndExecuted
+lengths-kept image hit m =
+    let s = atFetch hit m in
     let f = fieldsOf (fetched image s) in
-    let done = and-then m s _ (lengths-at-fetch irq2 m) (lengths-executed (operationOf (f .op)) (operandsOf f s) s) in
+    let done = and-then m s _ (lengths-at-fetch hit m) (lengths-executed (operationOf (f .op)) (operandsOf f s) s) in
     record { memory = done .memory; disk = done .disk; frame = done .frame }
 
 -- ---- ranges
@@ -128,11 +129,11 @@ pub record Fits (m : Machine) : Type 0 where
 fits : {m : Machine} {c : Core} {regs io : List ℕ} → Fits m → Fits (record { core = c; regs = regs; io = io; memory = m .memory; disk = m .disk; frame = m .frame })
 fits h = record { memory = h .memory; disk = h .disk; frame = h .frame }
 
-fits-at-fetch : (irq2 : List ℕ) (m : Machine) → Fits m → Fits (atFetch irq2 m)
+fits-at-fetch : (hit : Bool) (m : Machine) → Fits m → Fits (atFetch hit m)
 unfolding atFetch interrupted irq2Raised
-fits-at-fetch irq2 m h =
-    let raised = either Fits (isIn (m .core .age) irq2) (fits h) h in
-    either Fits (isAsked (irq2Raised irq2 m) && eqb (irq2Raised irq2 m .core .handler) 0) (fits raised) raised
+fits-at-fetch hit m h =
+    let raised = either Fits (hit) (fits h) h in
+    either Fits (isAsked (irq2Raised hit m .io) && eqb (irq2Raised hit m .core .handler) 0) (fits raised) raised
 
 fits-copied : (command : ℕ) (m : Machine) → Fits m → Fits (copied command m)
 unfolding put
@@ -144,7 +145,7 @@ fits-copied command m h =
     (record { memory = h .memory; disk = below-sets (2 ^ 32) (m .disk) (128 * ioAt disksector m) (buffer m) (h .disk) from-memory; frame = h .frame })
 
 fits-commanded : (low : ℕ) (m : Machine) → Fits m → Fits (commanded low m)
-unfolding commanded
+unfolding commanded accepted
 fits-commanded low m h =
     either Fits (isFree m) (either Fits (isReadOrWrite low) (either Fits (leb (ioAt diskbuffer m) 3968) (fits (fits-copied low m h)) (fits h)) (fits h)) (fits h)
 
@@ -178,10 +179,10 @@ fits-executed halt o m byte h = fits h
 fits-executed unknown o m byte h = fits h
 
 -- Over a whole cycle of a machine whose record is sound.
-pub fits-kept : (image irq2 : List ℕ) (m : Machine) → Sound (m .core) (m .regs) (m .io) → Fits m → Fits (cycle image irq2 m)
-unfolding cycle counted diskStepped timerStepped fetchedAndExecuted ioBits
-fits-kept image irq2 m sound h =
-    let s = atFetch irq2 m in
+pub fits-kept : (image : List ℕ) (hit : Bool) (m : Machine) → Sound (m .core) (m .regs) (m .io) → Fits m → Fits (stepped image hit m)
+unfolding stepped counted diskStepped timerStepped fetchedAndExecuted ioBits
+fits-kept image hit m sound h =
+    let s = atFetch hit m in
     let f = fieldsOf (fetched image s) in
-    let byte = sound-at-fetch (2 ^ 40) irq2 m (record { record-is = sound }) .record-is .fitting monitordata in
-    fits (fits-executed (operationOf (f .op)) (operandsOf f s) s byte (fits-at-fetch irq2 m h))
+    let byte = sound-at-fetch (2 ^ 40) hit m (record { record-is = sound }) .record-is .fitting monitordata in
+    fits (fits-executed (operationOf (f .op)) (operandsOf f s) s byte (fits-at-fetch hit m h))

@@ -16,11 +16,12 @@ use Rattle.devices.specs.Timer.{timed}
 use Rattle.devices.specs.Disk.{freed}
 use Rattle.devices.proofs.DiskLaws.{length-freed, free-disk}
 use Rattle.isa.specs.Word.{signExtended, fieldsOf}
-use Rattle.machine.specs.Words.{holds, plus}
+use Rattle.words.specs.Words.{holds, plus}
 use Rattle.machine.specs.State.{Machine, registers, putRegister, ioAt, putIo, withPc, withStatus, withHandler, withLeft, withRegs, withIo}
-use Rattle.machine.specs.Interrupts.{isIn, isAsked, irq2Raised, interrupted}
-use Rattle.machine.specs.Execution.{Operands, fetched, operandsOf, address, isFree, isReadOrWrite, onward, jumped, ended, copied, begun, commanded, painted, outputted, executed, fetchedAndExecuted}
-use Rattle.machine.specs.Cycle.{acceptsCommand, atFetch, timerStepped, diskStepped, counted, cycle}
+use Rattle.machine.specs.Interrupts.{isAsked, irq2Raised, interrupted}
+use Rattle.machine.specs.declared.Operands.{Operands}
+use Rattle.machine.specs.Execution.{fetched, operandsOf, address, isFree, isReadOrWrite, onward, jumped, ended, copied, begun, accepted, commanded, painted, outputted, executed, fetchedAndExecuted}
+use Rattle.machine.specs.Cycle.{acceptsAtFetch, atFetch, timerStepped, diskStepped, counted, stepped}
 use Rattle.machine.specs.Soundness.{keptBits, SoundTo}
 use Rattle.machine.proofs.SoundParts.{holds-after, sound-io, sound-core, sound-set, sound-core-to, kept-le, wrapped, sign-lt, calculated-lt}
 use Rattle.machine.proofs.DiskLaws.{command-free, left-at-fetch, accepted-left, busy-left}
@@ -82,12 +83,12 @@ module _ (limit : ℕ) where
 
   -- ---- steps 1 and 2
 
-  pub sound-at-fetch : (irq2 : List ℕ) (m : Machine) → SoundMachine limit m → SoundMachine limit (atFetch irq2 m)
+  pub sound-at-fetch : (hit : Bool) (m : Machine) → SoundMachine limit m → SoundMachine limit (atFetch hit m)
   unfolding atFetch interrupted irq2Raised ioBits
-  sound-at-fetch irq2 m s =
-      let raised = either (SoundMachine limit) (isIn (m .core .age) irq2) (io-put m irq2status 1 (omega arith) (λ e. omega arith) (λ e. omega arith) s) s in
-      let r = irq2Raised irq2 m in
-      either (SoundMachine limit) (isAsked r && eqb (r .core .handler) 0)
+  sound-at-fetch hit m s =
+      let raised = either (SoundMachine limit) (hit) (io-put m irq2status 1 (omega arith) (λ e. omega arith) (λ e. omega arith) s) s in
+      let r = irq2Raised hit m in
+      either (SoundMachine limit) (isAsked (r .io) && eqb (r .core .handler) 0)
       (handler-set _ 1 (omega arith)
       (pc-set _ (ioAt irqhandler r) (raised .record-is .fitting irqhandler)
       (io-put r irqreturn (r .core .pc) (raised .record-is .core .pc) (λ e. omega arith) (λ e. omega arith) raised)))
@@ -161,7 +162,7 @@ module _ (limit : ℕ) where
       }
 
   sound-commanded : (low : ℕ) (m : Machine) → SoundMachine limit m → SoundMachine limit (commanded low m)
-  unfolding commanded
+  unfolding commanded accepted
   sound-commanded low m s = go (isFree m) refl (isReadOrWrite low) refl
     where
       go : (a : Bool) → isFree m ≡ a → (b : Bool) → isReadOrWrite low ≡ b
@@ -287,16 +288,16 @@ module _ (limit : ℕ) where
 
   -- ---- the cycle
 
-  pub sound-cycle-to : (image irq2 : List ℕ) (m : Machine) → SoundMachine limit m → SoundMachine (limit + 1) (cycle image irq2 m)
-  unfolding cycle
-  sound-cycle-to image irq2 m s = sound-counted _ (sound-disk (m .core .left) _ (sound-timer _ (sound-fetched image _ (sound-at-fetch irq2 m s))))
+  pub sound-cycle-to : (image : List ℕ) (hit : Bool) (m : Machine) → SoundMachine limit m → SoundMachine (limit + 1) (stepped image hit m)
+  unfolding stepped
+  sound-cycle-to image hit m s = sound-counted _ (sound-disk (m .core .left) _ (sound-timer _ (sound-fetched image _ (sound-at-fetch hit m s))))
 
 -- A sound machine that is not at the cycle limit is sound after a cycle, whatever the image, the irq2 list and the memories.
-pub sound-cycle : (image irq2 : List ℕ) (m : Machine) → SoundMachine (2 ^ 40) m → m .core .age < 2 ^ 40 - 1 → SoundMachine (2 ^ 40) (cycle image irq2 m)
-sound-cycle image irq2 m s young =
+pub sound-cycle : (image : List ℕ) (hit : Bool) (m : Machine) → SoundMachine (2 ^ 40) m → m .core .age < 2 ^ 40 - 1 → SoundMachine (2 ^ 40) (stepped image hit m)
+sound-cycle image hit m s young =
     let r = s .record-is in
     let k = r .core in
-    sound-cycle-to (2 ^ 40 - 1) image irq2 m
+    sound-cycle-to (2 ^ 40 - 1) image hit m
     (record {
       record-is =
           sound-core-to r
@@ -305,26 +306,26 @@ sound-cycle image irq2 m s young =
 
 -- ---- the disk of a sound machine
 
-module _ (limit : ℕ) (image irq2 : List ℕ) (m : Machine) (s : SoundMachine limit m) where
+module _ (limit : ℕ) (image : List ℕ) (hit : Bool) (m : Machine) (s : SoundMachine limit m) where
   -- While cycles are to go each cycle takes one, whatever it does.
-  pub left-falls : 0 < m .core .left → cycle image irq2 m .core .left ≡ m .core .left - 1
+  pub left-falls : 0 < m .core .left → stepped image hit m .core .left ≡ m .core .left - 1
   left-falls going =
-      let at = sound-at-fetch limit irq2 m s .record-is in
-      let one = at .disk .busy (rw (left-at-fetch irq2 m .same) going) .0 in
-      busy-left image irq2 m going (ne-eqb (ioAt diskstatus (atFetch irq2 m)) 0 (λ e. omega arith))
+      let at = sound-at-fetch limit hit m s .record-is in
+      let one = at .disk .busy (rw (left-at-fetch hit m .same) going) .0 in
+      busy-left image hit m going (ne-eqb (ioAt diskstatus (atFetch hit m)) 0 (λ e. omega arith))
 
   -- A command that is accepted leaves 1,024 of them.
-  pub accepted : acceptsCommand image irq2 m ≡ true → cycle image irq2 m .core .left ≡ 1024
-  unfolding acceptsCommand
-  accepted h = accepted-left image irq2 m (go (eqb (m .core .left) 0) refl) h
+  pub left-accepted : acceptsAtFetch image (atFetch hit m) ≡ true → stepped image hit m .core .left ≡ 1024
+  unfolding acceptsAtFetch
+  left-accepted h = accepted-left image hit m (go (eqb (m .core .left) 0) refl) h
     where
       go : (t : Bool) → eqb (m .core .left) 0 ≡ t → m .core .left ≡ 0
       go true e = eqb-true (m .core .left) 0 e
       go false e =
-          let d = atFetch irq2 m in
+          let d = atFetch hit m in
           let f = fieldsOf (fetched image d) in
           let free = eqb-true (ioAt diskstatus d) 0 (command-free (operationOf (f .op)) (operandsOf f d) d h) in
           let more = eqb-false (m .core .left) 0 e in
           let some : 0 < m .core .left = omega arith in
-          let one = sound-at-fetch limit irq2 m s .record-is .disk .busy (rw (left-at-fetch irq2 m .same) some) .0 in
+          let one = sound-at-fetch limit hit m s .record-is .disk .busy (rw (left-at-fetch hit m .same) some) .0 in
           absurd (omega arith)

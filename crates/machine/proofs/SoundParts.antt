@@ -20,7 +20,7 @@ use Rattle.isa.specs.Registers.{ioBits, diskcmd, diskstatus, monitorcmd}
 use Rattle.isa.specs.Word.{signExtended}
 use Rattle.isa.proofs.IoLaws.{no-bits-above}
 use Rattle.machine.specs.declared.Core.{Core}
-use Rattle.machine.specs.Words.{calculated, holds}
+use Rattle.words.specs.Words.{calculated, holds}
 use Rattle.machine.specs.State.{registers}
 use Rattle.machine.specs.Soundness.{keptBits, SoundCore, SoundTo}
 

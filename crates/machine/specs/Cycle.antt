@@ -8,10 +8,11 @@ use Rattle.devices.specs.Disk.{leftAfter, diskAfter}
 use Rattle.isa.specs.Word.{fieldsOf}
 use Rattle.isa.specs.Operations.{Operation, operationOf, calculate, branch, jal, lw, sw, reti, input, output, halt, unknown}
 use Rattle.isa.specs.Registers.{clks, diskcmd, diskbuffer}
-use Rattle.machine.specs.Words.{plus}
+use Rattle.words.specs.Words.{plus}
+use Rattle.machine.specs.declared.Operands.{Operands}
 use Rattle.machine.specs.State.{Machine, ioAt, putIo, withIo, withLeft, withAge}
-use Rattle.machine.specs.Interrupts.{irq2Raised, interrupted}
-use Rattle.machine.specs.Execution.{Operands, fetched, operandsOf, address, isFree, isReadOrWrite, fetchedAndExecuted}
+use Rattle.machine.specs.Interrupts.{isIn, irq2Raised, interrupted}
+use Rattle.machine.specs.Execution.{fetched, operandsOf, address, isFree, isReadOrWrite, fetchedAndExecuted}
 
 -- "5. Timer, if enabled now .."
 unfoldable pub timerStepped : Machine → Machine
@@ -26,12 +27,16 @@ unfoldable pub counted : Machine → Machine
 counted m = withAge (m .core .age + 1) (putIo clks (plus (ioAt clks m) 1) m)
 
 -- The machine as step 3 finds it.
-unfoldable pub atFetch : List ℕ → Machine → Machine
-atFetch irq2 m = interrupted (irq2Raised irq2 m)
+unfoldable pub atFetch : Bool → Machine → Machine
+atFetch hit m = interrupted (irq2Raised hit m)
 
--- The cycle.
-unfoldable pub cycle : List ℕ → List ℕ → Machine → Machine
-cycle image irq2 m = counted (diskStepped (m .core .left) (timerStepped (fetchedAndExecuted image (atFetch irq2 m))))
+-- The seven steps.
+unfoldable pub stepped : List ℕ → Bool → Machine → Machine
+stepped image hit m = counted (diskStepped (m .core .left) (timerStepped (fetchedAndExecuted image (atFetch hit m))))
+
+-- "One cycle of the plain machine, c being the age before it".
+abbrev pub cycle : List ℕ → List ℕ → Machine → Machine
+cycle image irq2 m = stepped image (isIn (m .core .age) irq2) m
 
 -- "it has stopped when its status is not 0, is at the cycle limit when its age is 2^40-1, and makes no cycle after either."
 abbrev pub isStopped : Machine → Bool
@@ -57,11 +62,13 @@ isOutput unknown = false
 unfoldable pub isCommand : Operation → Operands → Machine → Bool
 isCommand k o m = isOutput k && eqb (address o) diskcmd && isReadOrWrite (o .rm % 4) && isFree m && leb (ioAt diskbuffer m) 3968
 
-unfoldable pub acceptsCommand : List ℕ → List ℕ → Machine → Bool
-acceptsCommand image irq2 m =
-    let s = atFetch irq2 m in
-    let f = fieldsOf (fetched image s) in
-    isCommand (operationOf (f .op)) (operandsOf f s) s
+unfoldable pub acceptsAtFetch : List ℕ → Machine → Bool
+acceptsAtFetch image m =
+    let f = fieldsOf (fetched image m) in
+    isCommand (operationOf (f .op)) (operandsOf f m) m
+
+abbrev pub acceptsCommand : List ℕ → List ℕ → Machine → Bool
+acceptsCommand image irq2 m = acceptsAtFetch image (atFetch (isIn (m .core .age) irq2) m)
 
 -- So many cycles, one after the other.
 unfoldable pub cycles : ℕ → List ℕ → List ℕ → Machine → Machine

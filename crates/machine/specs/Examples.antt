@@ -1,7 +1,6 @@
 -- The definitions computed on document 01's examples.
 use Prim.Native.Nat.{ℕ}
 use mathlib.Core.Path.{_≡_, refl}
-use mathlib.Core.Bool.{true}
 use mathlib.Core.List.{List, [], _∷_, _++_}
 use lib.ListN.{getD, replicate}
 use Rattle.text.specs.Bytes.{bytes}
@@ -9,33 +8,14 @@ use Rattle.text.specs.Numerals.{digits, decimal, digitCount, digitCountUpTo}
 use Rattle.text.specs.Place.{put}
 use Rattle.devices.specs.Timer.{timed}
 use Rattle.devices.specs.Disk.{freed}
-use Rattle.isa.specs.Operations.{sub, sra, blt, mac, output, operationOf}
+use Rattle.isa.specs.Operations.{output, operationOf}
 use Rattle.isa.specs.Registers.{ioName, ioBits, diskcmd, diskbuffer, irq2enable, irq2status, leds}
-use Rattle.machine.specs.Words.{calculated, holds}
+use Rattle.trace.specs.LogLines.{registerFields, lineT, lineH, lineLD}
 use Rattle.machine.specs.State.{Machine, freshMachine, withPc, withAge, withRegs, ioAt, putIo}
 use Rattle.machine.specs.Interrupts.{isIn, irq2Raised, interrupted}
-use Rattle.machine.specs.Execution.{commanded, painted, outputted, executed, fetchedAndExecuted}
-use Rattle.machine.specs.Cycle.{timerStepped, diskStepped, counted, atFetch, cycle, cycles}
-use Rattle.machine.specs.Log.{registerFields, lineT, lineH, lineLD, changeLines, ioLines, linesAtFetch, cycleLines}
-
--- "sub .. 2, 3 .. gives 0xFFFFFFFC": 2 - 3 - 3.
-sub-example : calculated sub 2 3 3 ≡ 0xFFFFFFFC
-sub-example = refl
-
--- "sra of 0x80000000 by 31 gives 0xFFFFFFFF, by 32 no change"
-sra-31 : calculated sra 0x80000000 31 0 ≡ 0xFFFFFFFF
-sra-31 = refl
-
-sra-32 : calculated sra 0x80000000 32 0 ≡ 0x80000000
-sra-32 = refl
-
--- "blt of 0xFFFFFFFF and 0 jumps"
-blt-example : holds blt 0xFFFFFFFF 0 ≡ true
-blt-example = refl
-
--- "mac 0x10000×0x10000+1 gives 1"
-mac-example : calculated mac 0x10000 0x10000 1 ≡ 1
-mac-example = refl
+use Rattle.machine.specs.Execution.{accepted, commanded, painted, outputted, executed, fetchedAndExecuted}
+use Rattle.machine.specs.Cycle.{timerStepped, diskStepped, counted, atFetch, stepped, cycle}
+use Rattle.machine.specs.Log.{changeLines, ioLines, linesAtFetch, cycleLines}
 
 -- ---- the program of two lines
 
@@ -47,23 +27,23 @@ start = freshMachine [] [] []
 
 -- Its log is the one that document 01 prints.
 first-lines : cycleLines program [] start ≡ bytes "T 000 140102009005 00000000 00000009 00000005 00000000 00000000 00000000 00000000 00000000 00000000 00000000 00000000 00000000 00000000 00000000 00000000 00000000\nH 0 WRITE leds 00000005\nL 0 00000005\n"
-unfolding program start cycleLines linesAtFetch lineT lineH lineLD changeLines ioLines registerFields atFetch interrupted irq2Raised isIn operationOf ioBits ioName digits decimal digitCount digitCountUpTo
+unfolding program start linesAtFetch lineT lineH lineLD changeLines ioLines registerFields atFetch interrupted irq2Raised isIn operationOf ioBits ioName digits decimal digitCount digitCountUpTo
 first-lines = refl
 
 second-lines : cycleLines program [] (cycle program [] start) ≡ bytes "T 001 150000000000 00000000 00000000 00000000 00000000 00000000 00000000 00000000 00000000 00000000 00000000 00000000 00000000 00000000 00000000 00000000 00000000\n"
-unfolding program start cycleLines linesAtFetch lineT lineH lineLD changeLines ioLines registerFields atFetch interrupted irq2Raised isIn operationOf ioBits ioName digits decimal digitCount digitCountUpTo cycle counted diskStepped timerStepped fetchedAndExecuted executed outputted commanded painted timed freed put
+unfolding program start linesAtFetch lineT lineH lineLD changeLines ioLines registerFields atFetch interrupted irq2Raised isIn operationOf ioBits ioName digits decimal digitCount digitCountUpTo stepped counted diskStepped timerStepped fetchedAndExecuted executed outputted commanded accepted painted timed freed put
 second-lines = refl
 
 -- "E 1 2 ..": it is halted after two cycles, which both count.
 halted : cycle program [] (cycle program [] start) .core ≡ record { status = 1; handler = 0; pc = 1; age = 2; left = 0 }
-unfolding program start cycle counted diskStepped timerStepped fetchedAndExecuted executed outputted commanded painted atFetch interrupted irq2Raised isIn operationOf ioBits timed freed put
+unfolding program start stepped counted diskStepped timerStepped fetchedAndExecuted executed outputted commanded accepted painted atFetch interrupted irq2Raised isIn operationOf ioBits timed freed put
 halted = refl
 
 -- ---- single cycles
 
 -- "jal at 4095 links 0": jal $ra, to 0.
 jal-links : getD (cycle (replicate 4095 0 ++ (0x0FF000000000 ∷ [])) [] (withPc 4095 start) .regs) 12 7 ≡ 0
-unfolding start cycle counted diskStepped timerStepped fetchedAndExecuted executed outputted commanded painted atFetch interrupted irq2Raised isIn operationOf ioBits timed freed put
+unfolding start stepped counted diskStepped timerStepped fetchedAndExecuted executed outputted commanded accepted painted atFetch interrupted irq2Raised isIn operationOf ioBits timed freed put
 jal-links = refl
 
 -- "address 4095 read, 4096 status 3": lw $a0 from the address in $v0.
@@ -71,11 +51,11 @@ loader : ℕ → Machine
 loader address = withRegs (address ∷ replicate 12 0) (freshMachine (replicate 4095 0 ++ (0xABC ∷ [])) [] [])
 
 read-4095 : getD (cycle (0x104300000000 ∷ []) [] (loader 4095) .regs) 1 7 ≡ 0xABC
-unfolding loader cycle counted diskStepped timerStepped fetchedAndExecuted executed outputted commanded painted atFetch interrupted irq2Raised isIn operationOf ioBits timed freed put
+unfolding loader stepped counted diskStepped timerStepped fetchedAndExecuted executed outputted commanded accepted painted atFetch interrupted irq2Raised isIn operationOf ioBits timed freed put
 read-4095 = refl
 
 fault-4096 : cycle (0x104300000000 ∷ []) [] (loader 4096) .core ≡ record { status = 3; handler = 0; pc = 0; age = 1; left = 0 }
-unfolding loader cycle counted diskStepped timerStepped fetchedAndExecuted executed outputted commanded painted atFetch interrupted irq2Raised isIn operationOf ioBits timed freed put
+unfolding loader stepped counted diskStepped timerStepped fetchedAndExecuted executed outputted commanded accepted painted atFetch interrupted irq2Raised isIn operationOf ioBits timed freed put
 fault-4096 = refl
 
 -- "diskbuffer 3968 accepted, 3969 status 5": out of 1 to diskcmd, from imm1 and imm2.
@@ -83,21 +63,21 @@ reader : ℕ → Machine
 reader buffer = putIo diskbuffer buffer (freshMachine [] [] [])
 
 command-accepted : cycle (0x14010200E001 ∷ []) [] (reader 3968) .core ≡ record { status = 0; handler = 0; pc = 1; age = 1; left = 1024 }
-unfolding reader cycle counted diskStepped timerStepped fetchedAndExecuted executed outputted commanded painted atFetch interrupted irq2Raised isIn operationOf ioBits timed freed put
+unfolding reader stepped counted diskStepped timerStepped fetchedAndExecuted executed outputted commanded accepted painted atFetch interrupted irq2Raised isIn operationOf ioBits timed freed put
 command-accepted = refl
 
 command-refused : cycle (0x14010200E001 ∷ []) [] (reader 3969) .core ≡ record { status = 5; handler = 0; pc = 0; age = 1; left = 0 }
-unfolding reader cycle counted diskStepped timerStepped fetchedAndExecuted executed outputted commanded painted atFetch interrupted irq2Raised isIn operationOf ioBits timed freed put
+unfolding reader stepped counted diskStepped timerStepped fetchedAndExecuted executed outputted commanded accepted painted atFetch interrupted irq2Raised isIn operationOf ioBits timed freed put
 command-refused = refl
 
 -- "status 5 does" log line H.
-refused-logs : ioLines 0 output (record { rs = 0; rt = diskcmd; rm = 1; rd = 0; target = 0 }) (reader 3969) ≡ bytes "H 0 WRITE diskcmd 00000001\n"
+refused-logs : ioLines 0 output (record { rs = 0; rt = diskcmd; rm = 1; rd = 0; target = 0 }) (reader 3969 .io) ≡ bytes "H 0 WRITE diskcmd 00000001\n"
 unfolding reader lineH changeLines ioLines ioBits ioName digits decimal digitCount digitCountUpTo put
 refused-logs = refl
 
 -- "If c is in the irq2 list", c being the age: clks, which a program may set, is 0 here.
-irq2-by-age : ioAt irq2status (irq2Raised (7 ∷ []) (withAge 7 start)) ≡ 1
-unfolding start irq2Raised isIn
+irq2-by-age : ioAt irq2status (cycle (0 ∷ []) (7 ∷ []) (withAge 7 start)) ≡ 1
+unfolding start stepped counted diskStepped timerStepped fetchedAndExecuted executed outputted commanded accepted painted atFetch interrupted irq2Raised isIn operationOf ioBits timed freed put
 irq2-by-age = refl
 
 -- ---- "Mistakes to exclude"
@@ -107,21 +87,21 @@ entered : Machine
 entered = cycle (0 ∷ []) (0 ∷ []) (putIo irq2enable 1 start)
 
 entry-rises : entered .core ≡ record { status = 0; handler = 1; pc = 1; age = 1; left = 0 }
-unfolding entered start cycle counted diskStepped timerStepped fetchedAndExecuted executed outputted commanded painted atFetch interrupted irq2Raised isIn operationOf ioBits timed freed put
+unfolding entered start stepped counted diskStepped timerStepped fetchedAndExecuted executed outputted commanded accepted painted atFetch interrupted irq2Raised isIn operationOf ioBits timed freed put
 entry-rises = refl
 
 entry-keeps-status : ioAt irq2status entered ≡ 1
-unfolding entered start cycle counted diskStepped timerStepped fetchedAndExecuted executed outputted commanded painted atFetch interrupted irq2Raised isIn operationOf ioBits timed freed put
+unfolding entered start stepped counted diskStepped timerStepped fetchedAndExecuted executed outputted commanded accepted painted atFetch interrupted irq2Raised isIn operationOf ioBits timed freed put
 entry-keeps-status = refl
 
 -- "an L line for an unchanged out": 5 to leds that hold 5.
-unchanged-leds : changeLines 0 leds 5 (putIo leds 5 start) ≡ []
+unchanged-leds : changeLines 0 leds 5 (putIo leds 5 start .io) ≡ []
 unfolding start changeLines lineLD
 unchanged-leds = refl
 
 -- "branching on rd": beq $imm2, $zero, $zero, $imm1, 0x123, 0x456 jumps to R[rm], which is 0x123.
 branch-to-rm : cycle (0x092001123456 ∷ []) [] start .core .pc ≡ 0x123
-unfolding start cycle counted diskStepped timerStepped fetchedAndExecuted executed outputted commanded painted atFetch interrupted irq2Raised isIn operationOf ioBits timed freed put
+unfolding start stepped counted diskStepped timerStepped fetchedAndExecuted executed outputted commanded accepted painted atFetch interrupted irq2Raised isIn operationOf ioBits timed freed put
 branch-to-rm = refl
 
 -- "a halt or fault whose cycle isn't counted": `halted` and `fault-4096` above.

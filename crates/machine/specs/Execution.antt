@@ -9,7 +9,8 @@ use Rattle.isa.specs.declared.Fields.{Fields}
 use Rattle.isa.specs.Word.{fieldsOf, signExtended}
 use Rattle.isa.specs.Operations.{Operation, operationOf, calculate, branch, jal, lw, sw, reti, input, output, halt, unknown}
 use Rattle.isa.specs.Registers.{isListed, ioBits, irqreturn, diskcmd, disksector, diskbuffer, diskstatus, monitoraddr, monitordata, monitorcmd}
-use Rattle.machine.specs.Words.{plus, calculated, holds}
+use Rattle.machine.specs.declared.Operands.{Operands}
+use Rattle.words.specs.Words.{plus, calculated, holds}
 use Rattle.machine.specs.State.{Machine, registers, putRegister, ioAt, putIo, withStatus, withPc, withHandler, withLeft, withMemory, withDisk, withFrame}
 
 -- ---- 3. Fetch
@@ -18,18 +19,11 @@ use Rattle.machine.specs.State.{Machine, registers, putRegister, ioAt, p
 abbrev pub fetched : List ℕ → Machine → ℕ
 fetched image m = getD image (m .core .pc) 0
 
--- R[rs], R[rt], R[rm] and R[rd] before execution, and rd.
-pub record Operands : Type 0 where
-  pub rs : ℕ
-  pub rt : ℕ
-  pub rm : ℕ
-  pub rd : ℕ
-  pub target : ℕ
-
 -- R0 to R15 as this instruction sees them.
 abbrev pub registersOf : Fields → Machine → List ℕ
 registersOf f m = registers (signExtended (f .imm1)) (signExtended (f .imm2)) m
 
+-- R[rs], R[rt], R[rm] and R[rd] before execution, and rd.
 abbrev pub operandsOf : Fields → Machine → Operands
 operandsOf f m =
     let r = registersOf f m in
@@ -77,15 +71,14 @@ isReadOrWrite low = leb 1 low && leb low 2
 abbrev pub begun : ℕ → Machine → Machine
 begun command m = withLeft 1024 (putIo diskstatus 1 (putIo diskcmd command (copied command m)))
 
--- "diskcmd ignores writes while diskstatus is 1; free, it takes 1 (read) or 2 (write) as a command and stores 0 for 0 or 3"; "5 diskbuffer above
--- 3968 at a disk command, which is then not accepted". `low` are the low bits.
+-- A read or write that finds the disk free: "5 diskbuffer above 3968 at a disk command, which is then not accepted".
+unfoldable pub accepted : ℕ → Machine → Machine
+accepted command m = cond (leb (ioAt diskbuffer m) 3968) (onward (begun command m)) (ended 5 m)
+
+-- "diskcmd ignores writes while diskstatus is 1; free, it takes 1 (read) or 2 (write) as a command and stores 0 for 0 or 3". `low` are the
+-- low bits.
 unfoldable pub commanded : ℕ → Machine → Machine
-commanded low m =
-    cond (isFree m)
-    (cond (isReadOrWrite low)
-    (cond (leb (ioAt diskbuffer m) 3968) (onward (begun low m)) (ended 5 m))
-    (onward (putIo diskcmd 0 m)))
-    (onward m)
+commanded low m = cond (isFree m) (cond (isReadOrWrite low) (accepted low m) (onward (putIo diskcmd 0 m))) (onward m)
 
 -- "monitorcmd always holds 0; writing an odd value sets frame[monitoraddr] to monitordata."
 unfoldable pub painted : ℕ → Machine → Machine

@@ -3,7 +3,7 @@ use Prim.Native.Nat.{ℕ, _-_}
 use mathlib.Core.Bool.{cond}
 use mathlib.Core.List.{List, _∷_}
 use lib.Dec.{ltb}
-use lib.ListN.{getD, set, replicate}
+use lib.ListN.{getD, set, drop, replicate}
 use Rattle.machine.specs.declared.Core.{Core}
 
 -- "The record: status, handler flag, PC, age (cycles done, 40 bits), left (disk cycles to go), R3 to R15, the I/O registers": its scalars,
@@ -24,27 +24,45 @@ abbrev pub freshMachine : List ℕ → List ℕ → List ℕ → Machine
 freshMachine memory disk frame =
     record { core = freshCore; regs = replicate 13 0; io = replicate 23 0; memory = memory; disk = disk; frame = frame }
 
+-- The same of the code's parts: of R0 to R15, those from R3 on.
+abbrev pub packed : Core → List ℕ → List ℕ → List ℕ → List ℕ → List ℕ → Machine
+packed c registers io memory disk frame =
+    record { core = c; regs = drop 3 registers; io = io; memory = memory; disk = disk; frame = frame }
+
 -- ---- one part changed
 
+abbrev pub coreStatus : ℕ → Core → Core
+coreStatus x c = record { status = x; handler = c .handler; pc = c .pc; age = c .age; left = c .left }
+
+abbrev pub coreHandler : ℕ → Core → Core
+coreHandler x c = record { status = c .status; handler = x; pc = c .pc; age = c .age; left = c .left }
+
+abbrev pub corePc : ℕ → Core → Core
+corePc x c = record { status = c .status; handler = c .handler; pc = x; age = c .age; left = c .left }
+
+abbrev pub coreAge : ℕ → Core → Core
+coreAge x c = record { status = c .status; handler = c .handler; pc = c .pc; age = x; left = c .left }
+
+abbrev pub coreLeft : ℕ → Core → Core
+coreLeft x c = record { status = c .status; handler = c .handler; pc = c .pc; age = c .age; left = x }
+
+abbrev pub withCore : Core → Machine → Machine
+withCore x m = record { core = x; regs = m .regs; io = m .io; memory = m .memory; disk = m .disk; frame = m .frame }
+
 abbrev pub withStatus : ℕ → Machine → Machine
-withStatus x m =
-    record { core = record { status = x; handler = m .core .handler; pc = m .core .pc; age = m .core .age; left = m .core .left }; regs = m .regs; io = m .io; memory = m .memory; disk = m .disk; frame = m .frame }
+withStatus x m = withCore (coreStatus x (m .core)) m
 
 abbrev pub withHandler : ℕ → Machine → Machine
-withHandler x m =
-    record { core = record { status = m .core .status; handler = x; pc = m .core .pc; age = m .core .age; left = m .core .left }; regs = m .regs; io = m .io; memory = m .memory; disk = m .disk; frame = m .frame }
+withHandler x m = withCore (coreHandler x (m .core)) m
 
 abbrev pub withPc : ℕ → Machine → Machine
-withPc x m =
-    record { core = record { status = m .core .status; handler = m .core .handler; pc = x; age = m .core .age; left = m .core .left }; regs = m .regs; io = m .io; memory = m .memory; disk = m .disk; frame = m .frame }
+withPc x m = withCore (corePc x (m .core)) m
 
 abbrev pub withAge : ℕ → Machine → Machine
-withAge x m =
-    record { core = record { status = m .core .status; handler = m .core .handler; pc = m .core .pc; age = x; left = m .core .left }; regs = m .regs; io = m .io; memory = m .memory; disk = m .disk; frame = m .frame }
+withAge x m = withCore (coreAge x (m .core)) m
 
 abbrev pub withLeft : ℕ → Machine → Machine
-withLeft x m =
-    record { core = record { status = m .core .status; handler = m .core .handler; pc = m .core .pc; age = m .core .age; left = x }; regs = m .regs; io = m .io; memory = m .memory; disk = m .disk; frame = m .frame }
+withLeft x m = withCore (coreLeft x (m .core)) m
 
 abbrev pub withRegs : List ℕ → Machine → Machine
 withRegs x m = record { core = m .core; regs = x; io = m .io; memory = m .memory; disk = m .disk; frame = m .frame }
@@ -68,8 +86,11 @@ abbrev pub registers : ℕ → ℕ → Machine → List ℕ
 registers imm1 imm2 m = 0 ∷ imm1 ∷ imm2 ∷ m .regs
 
 -- R[n] becomes x. "Writes to these three change nothing."
+abbrev pub written : ℕ → ℕ → List ℕ → List ℕ
+written n x regs = cond (ltb n 3) regs (set regs (n - 3) x)
+
 abbrev pub putRegister : ℕ → ℕ → Machine → Machine
-putRegister n x m = withRegs (cond (ltb n 3) (m .regs) (set (m .regs) (n - 3) x)) m
+putRegister n x m = withRegs (written n x (m .regs)) m
 
 -- IO[n], and IO[n] set to x.
 abbrev pub ioAt : ℕ → Machine → ℕ

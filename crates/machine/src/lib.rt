@@ -1,4 +1,10 @@
-// The record of the machine.
+// The machine: its record, and one cycle with its log lines.
+pub mod disk;
+pub mod interrupts;
+pub mod operations;
+pub mod output;
+pub mod progress;
+pub mod registers;
 
 // The record's scalars: status, handler flag, PC, age (cycles done) and left (disk cycles to go).
 pub struct Core {
@@ -14,4 +20,13 @@ pub struct Record {
     pub core: Core,
     pub regs: [u32; 13],
     pub io: [u32; 23],
+}
+
+// What an instruction works on: R[rs], R[rt], R[rm] and R[rd] before execution, and the number of rd.
+pub struct Operands {
+    pub rs: u32,
+    pub rt: u32,
+    pub rm: u32,
+    pub rd: u32,
+    pub target: usize,
 }

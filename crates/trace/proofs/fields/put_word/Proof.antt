@@ -1,0 +1,33 @@
+-- `trace::fields::put_word` meets its contract.
+use mathlib.Core.Path.{refl, _∙_}
+use native.Mathlib.Omega.{arith}
+use lib.ListN.{length-set}
+use borrow.Author.Needs.{needs}
+use Rattle.trace.proofs.PieceLaws.{after-store}
+use Rattle.trace.proofs.fields.put_word.Statement.{statement}
+use Rattle.trace.proofs.fields.put_word.Tie as tie
+
+slice-write-out : tie.Need-slice-write-out
+slice-write-out c = search needs
+
+add-put-hex : tie.Need-add-put-hex
+add-put-hex c = search needs
+
+put-hex-requires : tie.Need-put-hex-requires
+put-hex-requires c κs = (simp length-set (omega arith), c .before .before .pre .1)
+
+add-result : tie.Need-add-result
+add-result c = search needs
+
+same-length : tie.Need-same-length
+same-length c = c .before .before .put-hex .kept .0 ∙ simp length-set
+
+returns : tie.Need-returns
+returns c =
+    let a = c .before .before .before .before .before .args in
+    (after-store (a .out .now) _ (a .at) _ _ _ refl (c .before .before .put-hex .ensures), refl)
+
+pub put-word-spec : {M : Type 1} → statement M
+put-word-spec =
+    tie.close
+    (tie.spec slice-write-out add-put-hex put-hex-requires add-result same-length returns)

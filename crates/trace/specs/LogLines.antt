@@ -1,0 +1,32 @@
+-- The lines of the log. "Lines end in LF, hex in capitals, one space between fields .. The letter stands first."
+use Prim.Native.Nat.{ℕ}
+use mathlib.Core.List.{List, [], _∷_, _++_}
+use Rattle.text.specs.Bytes.{bytes}
+use Rattle.text.specs.Numerals.{digits, decimal}
+use Rattle.text.specs.Lines.{LF}
+use Rattle.isa.specs.Registers.{ioName}
+
+-- A space and a field.
+abbrev pub field : List ℕ → List ℕ
+field x = bytes " " ++ x
+
+-- A space and eight hexadecimal digits for each register.
+unfoldable pub registerFields : List ℕ → List ℕ
+registerFields [] = []
+registerFields (r ∷ rs) = field (digits 16 8 r) ++ registerFields rs
+
+-- "T: PC (3 digits), word (12), R0 to R15 (8 each) before execution." Of the word its low 48 bits: 12 digits.
+unfoldable pub lineT : ℕ → ℕ → List ℕ → List ℕ
+lineT pc word rs = bytes "T" ++ field (digits 16 3 pc) ++ field (digits 16 12 word) ++ registerFields rs ++ (LF ∷ [])
+
+-- "H: cycle c in decimal, READ or WRITE, register name, value read or R[rm] (8)."
+unfoldable pub lineH : ℕ → List ℕ → ℕ → ℕ → List ℕ
+lineH c way n x = bytes "H" ++ field (decimal c) ++ field way ++ field (ioName n) ++ field (digits 16 8 x) ++ (LF ∷ [])
+
+-- "L and D: cycle, new value (8)."
+unfoldable pub lineLD : List ℕ → ℕ → ℕ → List ℕ
+lineLD letter c x = letter ++ field (decimal c) ++ field (digits 16 8 x) ++ (LF ∷ [])
+
+-- The text that is kept beside registers: the end of a T line (for the code).
+unfoldable pub registersText : List ℕ → List ℕ
+registersText rs = registerFields rs ++ (LF ∷ [])

@@ -1,0 +1,109 @@
+// The lines T, H, L and D.
+use crate::fields::put_cycle;
+use crate::fields::put_last_word;
+use crate::fields::put_name;
+use crate::fields::put_part;
+use crate::fields::put_word;
+use isa::io::io_name_length;
+use text::decimal::digit_count;
+use text::digits::put_hex;
+use text::place::put_bytes;
+ghost use mathlib.Core.Path.{_≡_};
+ghost use mathlib.Core.List.{List, [], _∷_, _++_};
+ghost use Prim.Native.Nat.{ℕ, _+_, _≤_};
+ghost use lib.ListN.{length};
+ghost use Rattle.text.specs.Bytes.{bytes};
+ghost use Rattle.text.specs.Numerals.{digits, HexPairs};
+ghost use Rattle.text.specs.Place.{put};
+ghost use Rattle.trace.specs.LogLines.{field, registersText, lineT, lineH, lineLD};
+
+// Lays the T line of an instruction at a place and returns the place after it. `kept` is the text of R3 to R15.
+pub fn put_line_t(
+    out: &mut [u8],
+    at: usize,
+    pc: u32,
+    word: u64,
+    imm1: u32,
+    imm2: u32,
+    kept: &[u8; 118],
+    pairs: &[u16; 256],
+) -> usize
+    requires { ⌜ (at + 163 ≤ length (now out)) × ((length (now kept) ≡ 118) × HexPairs (now pairs)) ⌝ }
+    ensures { λ r. ⌜ ((rs : List ℕ) → now (kept .entry) ≡ registersText rs → now (out .exit) ≡ put (now (out .entry)) at (lineT pc word (0 ∷ imm1 ∷ imm2 ∷ rs))) × (r ≡ at + 163) ⌝ }
+{
+    put_instruction(out, at, pc, word, pairs);
+    put_low_registers(out, at + 18, imm1, imm2, pairs);
+    put_bytes(out, at + 45, kept)
+}
+
+// The front of a T line, 18 bytes: its letter, PC and the word.
+fn put_instruction(out: &mut [u8], at: usize, pc: u32, word: u64, pairs: &[u16; 256])
+    requires { ⌜ (at + 18 ≤ length (now out)) × HexPairs (now pairs) ⌝ }
+    ensures { λ _. ⌜ now (out .exit) ≡ put (now (out .entry)) at (bytes "T" ++ field (digits 16 3 pc) ++ field (digits 16 12 word)) ⌝ }
+{
+    out[at] = b'T';
+    out[at + 1] = b' ';
+    put_hex(out, at + 2, 3, pc as u64, pairs);
+    out[at + 5] = b' ';
+    put_hex(out, at + 6, 12, word, pairs);
+}
+
+// R0, which is 0, and R1 and R2, the immediates: 27 bytes.
+fn put_low_registers(out: &mut [u8], at: usize, imm1: u32, imm2: u32, pairs: &[u16; 256])
+    requires { ⌜ (at + 27 ≤ length (now out)) × HexPairs (now pairs) ⌝ }
+    ensures { λ _. ⌜ now (out .exit) ≡ put (now (out .entry)) at (field (digits 16 8 0) ++ field (digits 16 8 imm1) ++ field (digits 16 8 imm2)) ⌝ }
+{
+    put_word(out, at, 0, pairs);
+    put_word(out, at + 9, imm1, pairs);
+    put_word(out, at + 18, imm2, pairs);
+}
+
+// Lays an H line at a place and returns the place after it. `way` is READ or WRITE.
+pub fn put_line_h(
+    out: &mut [u8],
+    at: usize,
+    c: u64,
+    way: &[u8],
+    n: u32,
+    x: u32,
+    pairs: &[u16; 256],
+) -> usize
+    requires { ⌜ (at + length (lineH c (now way) n x) ≤ length (now out)) × HexPairs (now pairs) ⌝ }
+    ensures { λ r. ⌜ (now (out .exit) ≡ put (now (out .entry)) at (lineH c (now (way .entry)) n x)) × (r ≡ at + length (lineH c (now (way .entry)) n x)) ⌝ }
+{
+    let way_at = put_cycle(out, at, b'H', c);
+    let name_at = put_part(out, way_at, way);
+    let value_at = put_name(out, name_at, n);
+    put_last_word(out, value_at, x, pairs)
+}
+
+// Lays an L or D line at a place and returns the place after it.
+pub fn put_line_ld(
+    out: &mut [u8],
+    at: usize,
+    letter: u8,
+    c: u64,
+    x: u32,
+    pairs: &[u16; 256],
+) -> usize
+    requires { ⌜ (at + length (lineLD (letter ∷ []) c x) ≤ length (now out)) × HexPairs (now pairs) ⌝ }
+    ensures { λ r. ⌜ (now (out .exit) ≡ put (now (out .entry)) at (lineLD (letter ∷ []) c x)) × (r ≡ at + length (lineLD (letter ∷ []) c x)) ⌝ }
+{
+    let value_at = put_cycle(out, at, letter, c);
+    put_last_word(out, value_at, x, pairs)
+}
+
+// How many bytes an H line has, whatever its value.
+pub fn line_h_length(c: u64, way: usize, n: u32) -> usize
+    requires { ⌜ way ≤ 5 ⌝ }
+    ensures { λ r. ⌜ ((s : List ℕ) (x : ℕ) → length s ≡ way → r ≡ length (lineH c s n x)) ⌝ }
+{
+    digit_count(c) + way + io_name_length(n) + 14
+}
+
+// How many bytes an L or D line has, whatever its value.
+pub fn line_ld_length(c: u64) -> usize
+    ensures { λ r. ⌜ ((letter x : ℕ) → r ≡ length (lineLD (letter ∷ []) c x)) ⌝ }
+{
+    digit_count(c) + 12
+}

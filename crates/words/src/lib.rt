@@ -1,0 +1,4 @@
+// Words of 32 bits: what the instruction set calculates and compares.
+pub mod arithmetic;
+pub mod operations;
+pub mod signed;

@@ -34,7 +34,7 @@ left-at-fetch hit m =
     record { same = entry .same ∙ raised .same }
 
 -- While the disk is busy no instruction changes left.
-left-kept : (k : Operation) (o : Operands) (m : Machine) → isFree m ≡ false → KeepsLeft m (executed k o m)
+pub left-kept : (k : Operation) (o : Operands) (m : Machine) → isFree m ≡ false → KeepsLeft m (executed k o m)
 unfolding executed outputted commanded accepted painted
 left-kept (calculate k) o m busy = record { same = refl }
 left-kept (branch k) o m busy = either (KeepsLeft m) (holds k (o .rs) (o .rt)) (record { same = refl }) (record { same = refl })

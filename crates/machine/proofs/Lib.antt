@@ -3,6 +3,8 @@ pub mod Choice
 pub mod PackLaws
 pub mod RegisterLaws
 pub mod CopyLaws
+pub mod StepLaws
+pub mod CycleLaws
 pub mod DiskLaws
 pub mod LineLaws
 pub mod Irq2Laws

@@ -1,5 +1,5 @@
 -- A sound record stays sound over a cycle. Assumes nothing.
-use Prim.Native.Nat.{ℕ, zero, suc, _+_, _-_, _%_, _^_, _≤_, _<_}
+use Prim.Native.Nat.{ℕ, zero, suc, _+_, _-_, _%_, _^_, _≤_, _<_, zero-le}
 use mathlib.Core.Path.{_≡_, refl, _∙_}
 use mathlib.Core.Bool.{Bool, true, false, cond, _&&_, not}
 use mathlib.Core.List.{List}
@@ -24,7 +24,7 @@ use Rattle.machine.specs.Execution.{fetched, operandsOf, address, isFree
 use Rattle.machine.specs.Cycle.{acceptsAtFetch, atFetch, timerStepped, diskStepped, counted, stepped}
 use Rattle.machine.specs.Soundness.{keptBits, SoundTo}
 use Rattle.machine.proofs.SoundParts.{holds-after, sound-io, sound-core, sound-set, sound-core-to, kept-le, wrapped, sign-lt, calculated-lt}
-use Rattle.machine.proofs.DiskLaws.{command-free, left-at-fetch, accepted-left, busy-left}
+use Rattle.machine.proofs.DiskLaws.{command-free, left-at-fetch, left-kept, accepted-left, busy-left}
 use Rattle.machine.proofs.Choice.{either}
 
 -- ---- the machine
@@ -202,7 +202,7 @@ module _ (limit : ℕ) where
   sound-executed halt o m hs ht hm s = status-set m 1 (omega arith) s
   sound-executed unknown o m hs ht hm s = status-set m 2 (omega arith) s
 
-  sound-fetched : (image : List ℕ) (m : Machine) → SoundMachine limit m → SoundMachine limit (fetchedAndExecuted image m)
+  pub sound-fetched : (image : List ℕ) (m : Machine) → SoundMachine limit m → SoundMachine limit (fetchedAndExecuted image m)
   unfolding fetchedAndExecuted
   sound-fetched image m s =
       let w = fetched image m in
@@ -314,18 +314,36 @@ module _ (limit : ℕ) (image : List ℕ) (hit : Bool) (m : Machine) (s : SoundM
       let one = at .disk .busy (rw (left-at-fetch hit m .same) going) .0 in
       busy-left image hit m going (ne-eqb (ioAt diskstatus (atFetch hit m)) 0 (λ e. omega arith))
 
-  -- A command that is accepted leaves 1,024 of them.
-  pub left-accepted : acceptsAtFetch image (atFetch hit m) ≡ true → stepped image hit m .core .left ≡ 1024
-  unfolding acceptsAtFetch
-  left-accepted h = accepted-left image hit m (go (eqb (m .core .left) 0) refl) h
+  -- A disk that an instruction finds free has no cycles to go.
+  free-idle : isFree (atFetch hit m) ≡ true → m .core .left ≡ 0
+  free-idle free = go (eqb (m .core .left) 0) refl
     where
       go : (t : Bool) → eqb (m .core .left) 0 ≡ t → m .core .left ≡ 0
       go true e = eqb-true (m .core .left) 0 e
       go false e =
-          let d = atFetch hit m in
-          let f = fieldsOf (fetched image d) in
-          let free = eqb-true (ioAt diskstatus d) 0 (command-free (operationOf (f .op)) (operandsOf f d) d h) in
+          let none = eqb-true (ioAt diskstatus (atFetch hit m)) 0 free in
           let more = eqb-false (m .core .left) 0 e in
           let some : 0 < m .core .left = omega arith in
           let one = sound-at-fetch limit hit m s .record-is .disk .busy (rw (left-at-fetch hit m .same) some) .0 in
           absurd (omega arith)
+
+  -- A command that is accepted leaves 1,024 of them.
+  pub left-accepted : acceptsAtFetch image (atFetch hit m) ≡ true → stepped image hit m .core .left ≡ 1024
+  unfolding acceptsAtFetch
+  left-accepted h =
+      let d = atFetch hit m in
+      let f = fieldsOf (fetched image d) in
+      accepted-left image hit m (free-idle (command-free (operationOf (f .op)) (operandsOf f d) d h)) h
+
+  -- No instruction takes one.
+  pub left-not-less : m .core .left ≤ fetchedAndExecuted image (atFetch hit m) .core .left
+  unfolding fetchedAndExecuted
+  left-not-less = go (isFree (atFetch hit m)) refl
+    where
+      go : (t : Bool) → isFree (atFetch hit m) ≡ t → m .core .left ≤ fetchedAndExecuted image (atFetch hit m) .core .left
+      go true free = rw (free-idle free) zero-le
+      go false busy =
+          let d = atFetch hit m in
+          let f = fieldsOf (fetched image d) in
+          let same = left-kept (operationOf (f .op)) (operandsOf f d) d busy .same ∙ left-at-fetch hit m .same in
+          rw same (omega arith)

@@ -24,10 +24,11 @@ abbrev pub registersOf : Fields → Machine → List ℕ
 registersOf f m = registers (signExtended (f .imm1)) (signExtended (f .imm2)) m
 
 -- R[rs], R[rt], R[rm] and R[rd] before execution, and rd.
+abbrev pub operandsFrom : Fields → List ℕ → Operands
+operandsFrom f r = record { rs = getD r (f .rs) 0; rt = getD r (f .rt) 0; rm = getD r (f .rm) 0; rd = getD r (f .rd) 0; target = f .rd }
+
 abbrev pub operandsOf : Fields → Machine → Operands
-operandsOf f m =
-    let r = registersOf f m in
-    record { rs = getD r (f .rs) 0; rt = getD r (f .rt) 0; rm = getD r (f .rm) 0; rd = getD r (f .rd) 0; target = f .rd }
+operandsOf f m = operandsFrom f (registersOf f m)
 
 -- "Here a = R[rs]+R[rt] wrapped".
 abbrev pub address : Operands → ℕ

@@ -5,5 +5,5 @@ pub mod Execution
 pub mod Cycle
 pub mod Log
 pub mod Soundness
-pub mod Kept
+pub mod Lent
 pub mod Examples

@@ -56,6 +56,9 @@ pub record Traced : Type 0 where
   pub log : List ℕ
   pub at : ℕ
 
+abbrev pub traced : Machine → List ℕ → ℕ → Traced
+traced m log at = record { machine = m; log = log; at = at }
+
 -- One cycle more; `hit`: c is in the irq2 list.
 unfoldable pub tracedOn : List ℕ → Bool → Traced → Traced
 tracedOn image hit t =

@@ -1,6 +1,10 @@
 // The machine: its record, and one cycle with its log lines.
+
+pub mod cycle;
 pub mod disk;
+pub mod execute;
 pub mod interrupts;
+pub mod io_lines;
 pub mod operations;
 pub mod output;
 pub mod progress;
@@ -29,4 +33,10 @@ pub struct Operands {
     pub rm: u32,
     pub rd: u32,
     pub target: usize,
+}
+
+// What a cycle leaves: the scalars, and the log's place after its lines.
+pub struct Step {
+    pub core: Core,
+    pub at: usize,
 }

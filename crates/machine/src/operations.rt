@@ -19,7 +19,7 @@ ghost use Rattle.text.specs.Numerals.{HexPairs};
 ghost use Rattle.isa.specs.Operations.{operationOf, jal, lw, sw, reti, input as inputOperation};
 ghost use Rattle.machine.specs.State.{packed};
 ghost use Rattle.machine.specs.Execution.{executed};
-ghost use Rattle.machine.specs.Kept.{Kept};
+ghost use Rattle.machine.specs.Lent.{Kept};
 
 // The size of the data memory.
 const MEMORY: u32 = 4096;

@@ -20,6 +20,7 @@ ghost use Rattle.isa.specs.Registers.{monitoraddr, monitordata};
 ghost use Rattle.machine.specs.State.{packed};
 ghost use Rattle.machine.specs.Execution.{outputted, executed};
 ghost use Rattle.machine.specs.Soundness.{Fitting};
+ghost use Rattle.machine.specs.Lent.{Sized};
 
 // out.
 pub fn output(
@@ -30,7 +31,7 @@ pub fn output(
     disk: &mut [u32],
     frame: &mut [u8],
 ) -> Core
-    requires { ⌜ (length (now io) ≡ 23) × (Fitting (now io) × ((length (now memory) ≡ 4096) × ((length (now disk) ≡ 16384) × (length (now frame) ≡ 65536)))) ⌝ }
+    requires { ⌜ Sized (now io) (now memory) (now disk) (now frame) ⌝ }
     ensures { λ r. ⌜ ((regs : List ℕ) → packed r regs (now (io .exit)) (now (memory .exit)) (now (disk .exit)) (now (frame .exit)) ≡ executed outputOperation o (packed c regs (now (io .entry)) (now (memory .entry)) (now (disk .entry)) (now (frame .entry)))) ⌝ }
 {
     let a = plus(o.rs, o.rt);
@@ -50,7 +51,7 @@ fn put_io(
     disk: &mut [u32],
     frame: &mut [u8],
 ) -> Core
-    requires { ⌜ (a < 23) × ((length (now io) ≡ 23) × (Fitting (now io) × ((length (now memory) ≡ 4096) × ((length (now disk) ≡ 16384) × (length (now frame) ≡ 65536))))) ⌝ }
+    requires { ⌜ (a < 23) × Sized (now io) (now memory) (now disk) (now frame) ⌝ }
     ensures { λ r. ⌜ ((regs : List ℕ) → packed r regs (now (io .exit)) (now (memory .exit)) (now (disk .exit)) (now (frame .exit)) ≡ outputted a x (packed c regs (now (io .entry)) (now (memory .entry)) (now (disk .entry)) (now (frame .entry)))) ⌝ }
 {
     match a {

@@ -5,7 +5,7 @@ ghost use Prim.Native.Nat.{_<_};
 ghost use lib.ListN.{drop};
 ghost use Rattle.text.specs.Numerals.{HexPairs};
 ghost use Rattle.machine.specs.State.{written};
-ghost use Rattle.machine.specs.Kept.{Kept};
+ghost use Rattle.machine.specs.Lent.{Kept};
 
 // R[n] becomes x; R0, R1 and R2 don't change.
 pub fn put_register(

@@ -4,12 +4,13 @@ use mathlib.Core.Path.{_≡_, refl, sym, _∙_, ap}
 use mathlib.Core.Bool.{Bool}
 use mathlib.Core.List.{List, _++_}
 use native.Mathlib.Omega.{arith}
-use lib.ListN.{length, drop, length-drop}
+use lib.ListN.{length, drop, length-append, length-drop}
 use Rattle.text.specs.Place.{put}
 use Rattle.isa.specs.declared.Fields.{Fields}
 use Rattle.isa.specs.Word.{fieldsOf}
 use Rattle.isa.specs.Operations.{operationOf}
 use Rattle.trace.specs.LogLines.{lineT}
+use Rattle.trace.proofs.LengthLaws.{length-T}
 use Rattle.machine.specs.declared.Core.{Core}
 use Rattle.machine.specs.declared.Operands.{Operands}
 use Rattle.machine.specs.State.{Machine, packed}
@@ -41,6 +42,13 @@ module _ (image : List ℕ) (c : Core) (registers after io memory disk frame : L
       ∙ ap (λ (r : List ℕ). lineT (c .pc) word r ++ ioLines (c .age) (operationOf (f .op)) (operandsOf f m) io) (p .1)
       ∙ ap (λ (g : Fields). lineT (c .pc) word (registersOf g m) ++ ioLines (c .age) (operationOf (g .op)) (operandsOf g m) io) d
       ∙ ap (λ (v : ℕ). lineT (c .pc) v (registersOf (fieldsOf v) m) ++ ioLines (c .age) (operationOf (fieldsOf v .op)) (operandsOf (fieldsOf v) m) io) w
+
+  -- How many bytes they have.
+  pub lines-size : length registers ≡ 16 → length (linesAtFetch image (packed c registers io memory disk frame)) ≡ 163 + length (ioLines (c .age) (operationOf (f .op)) o io)
+  unfolding m
+  lines-size sixteen =
+      let are : length after ≡ 16 = ap length (p .1) ∙ rw length-drop (omega arith) in
+      ap length (sym lines-are) ∙ rw (length-append, length-T) (omega arith)
 
   -- What they execute.
   pub executed-is : executed (operationOf (f .op)) o (packed c after io memory disk frame) ≡ fetchedAndExecuted image (packed c registers io memory disk frame)

@@ -34,7 +34,7 @@ module _ (c : ℕ) (young : c < 2 ^ 40) where
   length-in n x = let d = cycle-digits in let k = length-name n in rw length-H (omega arith)
 
   -- An out that logs L or D names leds or display7seg.
-  length-out : (n x : ℕ) (io : List ℕ) → length (lineH c (bytes "WRITE") n x ++ changeLines c n x io) ≤ 68
+  pub length-out : (n x : ℕ) (io : List ℕ) → length (lineH c (bytes "WRITE") n x ++ changeLines c n x io) ≤ 68
   unfolding changeLines ioName
   length-out n x io =
       rw (length-append, length-H)
@@ -55,7 +55,8 @@ module _ (c : ℕ) (young : c < 2 ^ 40) where
   none : {l : List ℕ} → l ≡ [] → length l ≤ 68
   none e = rw e (omega arith)
 
-  length-io : (k : Operation) (o : Operands) (io : List ℕ) → length (ioLines c k o io) ≤ 68
+  -- H, L and D together.
+  pub length-io : (k : Operation) (o : Operands) (io : List ℕ) → length (ioLines c k o io) ≤ 68
   unfolding ioLines
   length-io (calculate k) o io = none refl
   length-io (branch k) o io = none refl

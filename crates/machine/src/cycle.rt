@@ -105,7 +105,7 @@ fn fetch_and_execute(
 }
 
 // Sets R1 and R2 to the immediates and reads the operands.
-fn read_operands(f: Fields, regs: &mut [u32; 16]) -> Operands
+pub fn read_operands(f: Fields, regs: &mut [u32; 16]) -> Operands
     requires { ⌜ FieldsFit f × ((length (now regs) ≡ 16) × (getD (now regs) 0 0 ≡ 0)) ⌝ }
     ensures { λ r. ⌜ ((c : CoreOf) (io memory disk frame : List ℕ) → (r ≡ operandsOf f (packed c (now (regs .entry)) io memory disk frame)) × (now (regs .exit) ≡ registersOf f (packed c (now (regs .entry)) io memory disk frame))) ⌝ }
 {

@@ -5,6 +5,7 @@ pub mod disk;
 pub mod execute;
 pub mod interrupts;
 pub mod io_lines;
+pub mod lengths;
 pub mod operations;
 pub mod output;
 pub mod progress;

@@ -2,26 +2,20 @@
 use Prim.Native.Nat.{ℕ, _+_, _-_, _*_, _≤_, _<_}
 use mathlib.Core.Path.{_≡_, refl, sym, _∙_, ap}
 use mathlib.Core.Bool.{Bool, true, false, cond, _&&_}
-use mathlib.Core.List.{List, _++_, append-nil, append-assoc}
+use mathlib.Core.List.{List, _++_, append-assoc}
 use native.Mathlib.Nat.{zero-add}
 use native.Mathlib.Omega.{arith}
 use lib.Dec.{eqb, leb}
-use lib.ListN.{length, getD, set, take, drop, drop-of-length-le, length-take, length-drop}
+use lib.ListN.{length, getD, set, take, drop, length-take, length-drop}
 use lib.Seq.{sets-eq}
-use borrow.Author.Tests.{lt-leb, le-leb, leb-true, leb-false}
+use borrow.Author.Tests.{leb-true}
 use borrow.Rule.Slice.PartMut.{putMid, post-is}
 use Rattle.text.specs.Place.{put}
-use Rattle.text.proofs.PutLaws.{put-front, copy-turn, copy-end}
+use Rattle.text.proofs.PutLaws.{copy-turn, copy-end}
 use Rattle.isa.specs.Registers.{disksector, diskbuffer}
 use Rattle.machine.specs.declared.Core.{Core}
-use Rattle.machine.specs.State.{packed, ioAt}
+use Rattle.machine.specs.State.{packed}
 use Rattle.machine.specs.Execution.{isReadOrWrite, copied}
-
--- As many numbers laid at the front are the whole.
-pub put-all : (d xs : List ℕ) → length d ≡ length xs → put d 0 xs ≡ xs
-put-all d xs e =
-    let all : length d ≤ length xs = omega arith in
-    put-front d xs (omega arith) ∙ rw (drop-of-length-le d all, append-nil xs)
 
 -- A turn of a copy from the front on, and its end.
 module _ (d xs : List ℕ) (i : ℕ) where

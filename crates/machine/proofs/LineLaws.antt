@@ -14,8 +14,9 @@ use Rattle.text.proofs.DecimalLaws.{count-le}
 use Rattle.isa.specs.Operations.{Operation, operationOf, calculate, branch, jal, lw, sw, reti, input, output, halt, unknown}
 use Rattle.isa.specs.Registers.{ioName, isListed, leds, display7seg}
 use Rattle.isa.specs.Word.{fieldsOf}
+use Rattle.isa.proofs.IoLaws.{name-length}
 use Rattle.trace.specs.LogLines.{lineH, lineLD}
-use Rattle.trace.proofs.LengthLaws.{length-T, length-H, length-LD, length-name}
+use Rattle.trace.proofs.LengthLaws.{length-T, length-H, length-LD}
 use Rattle.machine.specs.declared.Operands.{Operands}
 use Rattle.machine.specs.State.{Machine}
 use Rattle.machine.specs.Interrupts.{isAsked, irq2Raised, interrupted}
@@ -31,14 +32,14 @@ module _ (c : ℕ) (young : c < 2 ^ 40) where
   cycle-digits = count-le 10 (omega arith) 12 c (omega arith)
 
   length-in : (n x : ℕ) → length (lineH c (bytes "READ") n x) ≤ 68
-  length-in n x = let d = cycle-digits in let k = length-name n in rw length-H (omega arith)
+  length-in n x = let d = cycle-digits in let k = name-length n in rw length-H (omega arith)
 
   -- An out that logs L or D names leds or display7seg.
   pub length-out : (n x : ℕ) (io : List ℕ) → length (lineH c (bytes "WRITE") n x ++ changeLines c n x io) ≤ 68
   unfolding changeLines ioName
   length-out n x io =
       rw (length-append, length-H)
-      (go (eqb n leds && not (eqb x (getD io leds 0))) refl (eqb n display7seg && not (eqb x (getD io display7seg 0))) refl cycle-digits (length-name n))
+      (go (eqb n leds && not (eqb x (getD io leds 0))) refl (eqb n display7seg && not (eqb x (getD io display7seg 0))) refl cycle-digits (name-length n))
     where
       go : (a : Bool) → (eqb n leds && not (eqb x (getD io leds 0))) ≡ a → (b : Bool) → (eqb n display7seg && not (eqb x (getD io display7seg 0))) ≡ b
           → digitCount 10 c ≤ 13 → length (ioName n) ≤ 12

@@ -19,7 +19,8 @@ use Rattle.machine.specs.declared.Operands.{Operands}
 use Rattle.machine.specs.Execution.{fetched, operandsOf, address, isFree, isReadOrWrite, sector, buffer, copied, accepted, commanded, painted, outputted, executed, fetchedAndExecuted}
 use Rattle.machine.specs.Cycle.{timerStepped, diskStepped, counted, atFetch, stepped}
 use Rattle.machine.specs.Soundness.{Sound}
-use Rattle.machine.proofs.SoundParts.{holds-after, wrapped}
+use Rattle.words.proofs.FitLaws.{wrapped}
+use Rattle.machine.proofs.SoundParts.{holds-after}
 use Rattle.machine.proofs.SoundLaws.{sound-at-fetch}
 use Rattle.machine.proofs.Choice.{either}
 

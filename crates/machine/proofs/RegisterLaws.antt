@@ -1,7 +1,7 @@
 -- R0 to R15 in the code, and the text that is kept beside them. Assumes nothing.
-use Prim.Native.Nat.{ℕ, _+_, _-_, _*_, _≤_, _<_}
+use Prim.Native.Nat.{ℕ, _+_, _-_, _≤_, _<_}
 use mathlib.Core.Path.{_≡_, refl, sym, _∙_, ap}
-use mathlib.Core.List.{List, [], _∷_, _++_}
+use mathlib.Core.List.{List, [], _∷_}
 use native.Mathlib.Omega.{arith}
 use lib.ListN.{length, getD, set, drop, length-append, length-set, length-drop}
 use lib.Seq.{getD-set-other, drop-set-add}
@@ -11,7 +11,7 @@ use Rattle.isa.specs.Word.{signExtended}
 use Rattle.trace.specs.LogLines.{registersText}
 use Rattle.trace.proofs.LengthLaws.{length-fields}
 use Rattle.machine.specs.declared.Core.{Core}
-use Rattle.machine.specs.State.{Machine, packed, written, putRegister}
+use Rattle.machine.specs.State.{packed, written, putRegister}
 use Rattle.machine.specs.Execution.{operandsFrom, registersOf, operandsOf}
 use Rattle.machine.specs.Lent.{Kept}
 

@@ -1,7 +1,7 @@
 -- A sound record stays sound over a cycle. Assumes nothing.
 use Prim.Native.Nat.{ℕ, zero, suc, _+_, _-_, _%_, _^_, _≤_, _<_, zero-le}
 use mathlib.Core.Path.{_≡_, refl, _∙_}
-use mathlib.Core.Bool.{Bool, true, false, cond, _&&_, not}
+use mathlib.Core.Bool.{Bool, true, false, cond, _&&_}
 use mathlib.Core.List.{List}
 use native.Mathlib.Nat.{lt-of-lt-of-le}
 use native.Mathlib.Omega.{arith}
@@ -9,8 +9,8 @@ use lib.ListN.{length, getD, set, length-set}
 use lib.Dec.{eqb, leb, ltb}
 use lib.Seq.{getD-set-same, getD-set-other}
 use borrow.Author.Tests.{eqb-true, eqb-false, leb-true, ne-eqb}
-use Rattle.text.proofs.Truth.{and-left, and-right, below}
-use Rattle.isa.specs.Operations.{and, Operation, operationOf, calculate, branch, jal, lw, sw, reti, input, output, halt, unknown}
+use Rattle.text.proofs.Truth.{and-left, and-right}
+use Rattle.isa.specs.Operations.{Operation, operationOf, calculate, branch, jal, lw, sw, reti, input, output, halt, unknown}
 use Rattle.isa.specs.Registers.{ioBits, isListed, irq0status, irq1status, irq2status, irqhandler, irqreturn, clks, timerenable, timercurrent, timermax, diskcmd, diskbuffer, diskstatus, monitorcmd}
 use Rattle.devices.specs.Timer.{timed}
 use Rattle.devices.specs.Disk.{freed}
@@ -23,7 +23,8 @@ use Rattle.machine.specs.declared.Operands.{Operands}
 use Rattle.machine.specs.Execution.{fetched, operandsOf, address, isFree, isReadOrWrite, onward, jumped, ended, copied, begun, accepted, commanded, painted, outputted, executed, fetchedAndExecuted}
 use Rattle.machine.specs.Cycle.{acceptsAtFetch, atFetch, timerStepped, diskStepped, counted, stepped}
 use Rattle.machine.specs.Soundness.{keptBits, SoundTo}
-use Rattle.machine.proofs.SoundParts.{holds-after, sound-io, sound-core, sound-set, sound-core-to, kept-le, wrapped, sign-lt, calculated-lt}
+use Rattle.words.proofs.FitLaws.{wrapped, calculated-lt}
+use Rattle.machine.proofs.SoundParts.{holds-after, sound-io, sound-core, sound-set, sound-core-to, kept-le, sign-lt}
 use Rattle.machine.proofs.DiskLaws.{command-free, left-at-fetch, left-kept, accepted-left, busy-left}
 use Rattle.machine.proofs.Choice.{either}
 

@@ -1,33 +1,21 @@
 -- Parts of a sound record that change and leave it sound. Assumes nothing.
-use Prim.Native.Nat.{ℕ, _+_, _-_, _%_, _^_, _≤_, _<_}
+use Prim.Native.Nat.{ℕ, _+_, _-_, _^_, _≤_, _<_}
 use mathlib.Core.Path.{_≡_, refl, sym, _∙_}
-use mathlib.Core.Bool.{Bool, true, false, cond, not}
+use mathlib.Core.Bool.{Bool, true, false, cond}
 use mathlib.Core.List.{List}
-use native.Mathlib.Nat.{lt-of-le-of-lt, mod-lt, div-le-self, pow-le-pow-right, one-le-pow}
+use native.Mathlib.Nat.{pow-le-pow-right}
 use native.Mathlib.Omega.{arith}
 use lib.ListN.{length, getD, set, length-set}
-use lib.Bits.{and-lt, or-lt, xor-lt}
 use lib.Dec.{eqb, leb, ltb}
-use lib.Signed.{shrZ, mag-shr}
 use lib.Seq.{getD-set-same, getD-set-other, set-out}
-use mir.Syntax.{w32}
-use mir.Val.{toZ, ofZ}
-use mir.Facts.{fits-ofZ, sfits-toZ}
 use borrow.Author.Tests.{eqb-true, eqb-false, leb-true, leb-false, ltb-true, ltb-false}
 use Rattle.text.proofs.Truth.{below}
-use Rattle.isa.specs.Operations.{Calculation, add, sub, mac, and, or, xor, sll, sra, srl}
 use Rattle.isa.specs.Registers.{ioBits, diskcmd, diskstatus, monitorcmd}
 use Rattle.isa.specs.Word.{signExtended}
 use Rattle.isa.proofs.IoLaws.{no-bits-above}
 use Rattle.machine.specs.declared.Core.{Core}
-use Rattle.words.specs.Words.{calculated, holds}
 use Rattle.machine.specs.State.{registers}
 use Rattle.machine.specs.Soundness.{keptBits, SoundCore, SoundTo}
-
--- ---- numbers
-
-power-pos : (k : ℕ) → 0 < 2 ^ k
-power-pos k = one-le-pow k 2 (omega arith)
 
 -- ---- one I/O register set
 
@@ -96,28 +84,9 @@ kept-le n = go (eqb n monitorcmd)
     go true = omega arith
     go false = pow-le-pow-right {n = 2} (omega arith) (bits-le n)
 
--- What is kept of so many bits fits them.
-pub wrapped : (bits x : ℕ) → x % 2 ^ bits < 2 ^ bits
-wrapped bits x = mod-lt x (power-pos bits)
-
 pub sign-lt : (i : ℕ) → i < 2 ^ 12 → signExtended i < 2 ^ 32
 sign-lt i h = go (ltb i (2 ^ 11))
   where
     go : (t : Bool) → cond t i (2 ^ 32 - 2 ^ 12 + i) < 2 ^ 32
     go true = omega arith
     go false = omega arith
-
-pub shifted : (x m : ℕ) → x < 2 ^ 32 → ofZ w32 (shrZ (toZ w32 x) m) < 2 ^ 32
-shifted x m h =
-    fits-ofZ {w = w32} {z = shrZ (toZ w32 x) m} (record { sfits = lt-of-le-of-lt (mag-shr (toZ w32 x) m) (sfits-toZ {w = w32} {n = x} (record { fits = h }) .sfits) }) .fits
-
-pub calculated-lt : (k : Calculation) (x y z : ℕ) → x < 2 ^ 32 → y < 2 ^ 32 → z < 2 ^ 32 → calculated k x y z < 2 ^ 32
-calculated-lt add x y z hx hy hz = wrapped 32 _
-calculated-lt sub x y z hx hy hz = wrapped 32 _
-calculated-lt mac x y z hx hy hz = wrapped 32 _
-calculated-lt and x y z hx hy hz = and-lt 32 _ z (and-lt 32 x y hx hy) hz
-calculated-lt or x y z hx hy hz = or-lt 32 _ z (or-lt 32 x y hx hy) hz
-calculated-lt xor x y z hx hy hz = xor-lt 32 _ z (xor-lt 32 x y hx hy) hz
-calculated-lt sll x y z hx hy hz = wrapped 32 _
-calculated-lt sra x y z hx hy hz = shifted x (2 ^ (y % 32)) hx
-calculated-lt srl x y z hx hy hz = lt-of-le-of-lt (div-le-self x (2 ^ (y % 32))) hx

@@ -1,5 +1,5 @@
 -- Steps 5 to 7, and instructions that log nothing but T. Assumes nothing.
-use Prim.Native.Nat.{ℕ, zero, suc, _+_, _-_, _≤_, _<_}
+use Prim.Native.Nat.{ℕ, zero, suc, _+_, _-_, _<_}
 use mathlib.Core.Path.{_≡_, refl}
 use mathlib.Core.Bool.{Bool, true, false}
 use mathlib.Core.List.{List, []}
@@ -53,16 +53,3 @@ no-lines c op o io read write = go (ltb op 9) refl (ltb op 15) refl (ltb op 22) 
         let from : op ≡ 15 + (op - 15) = omega arith in
         rw from (single-lines c o io (op - 15) (omega arith) (λ q. read (omega arith)) (λ q. write (omega arith)))
     go false e false f false g = rw (unknown-above op (ltb-false op 22 g)) refl
-
--- A number is none of the k from `low` on.
-abbrev pub NoneFrom : ℕ → ℕ → ℕ → Type 0
-NoneFrom low zero n = Unit
-NoneFrom low (suc k) n = NoneFrom low k n × (n ≡ low + k → ⊥)
-
--- Then it is above them.
-pub past : (low k n : ℕ) → low ≤ n → NoneFrom low k n → low + k ≤ n
-past low zero n h none = omega arith
-past low (suc k) n h none =
-    let before = past low k n h (none .0) in
-    let other = none .1 in
-    omega arith

@@ -13,7 +13,7 @@ ghost use Prim.Native.Nat.{ℕ, _+_, _*_, _≤_, _<_};
 ghost use lib.Dec.{eqb};
 ghost use lib.ListN.{length, getD, take, drop};
 ghost use Rattle.text.specs.Place.{put};
-ghost use Rattle.isa.specs.Registers.{disksector, diskbuffer};
+ghost use Rattle.isa.specs.Registers.{disksector};
 ghost use Rattle.machine.specs.State.{packed};
 ghost use Rattle.machine.specs.Execution.{accepted, commanded};
 

@@ -1,7 +1,7 @@
 -- Laws of bytes laid at a place. Assumes nothing.
 use Prim.Native.Nat.{ℕ, suc, _+_, _≤_, _<_}
 use mathlib.Core.Path.{_≡_, refl, sym, _∙_, ap}
-use mathlib.Core.List.{List, [], _∷_, _++_}
+use mathlib.Core.List.{List, [], _∷_, _++_, append-nil}
 use native.Mathlib.Nat.{add-zero, add-suc, suc-add, zero-add}
 use native.Mathlib.Omega.{arith}
 use native.Mathlib.Numerals.{add-one}
@@ -48,6 +48,12 @@ put-before d at n (x ∷ xs) ys e =
 pub put-front : (d xs : List ℕ) → length xs ≤ length d → put d 0 xs ≡ xs ++ drop (length xs) d
 unfolding put
 put-front d xs h = sets-eq xs d 0 (rw zero-add h) ∙ rw zero-add
+
+-- A text laid over all of a list that is as long.
+pub put-all : (d xs : List ℕ) → length xs ≡ length d → put d 0 xs ≡ xs
+put-all d xs e =
+    let all : length d ≤ length xs = omega arith in
+    put-front d xs (omega arith) ∙ rw (drop-of-length-le d all, append-nil xs)
 
 -- A turn of a copy: the element i of xs is stored.
 module _ (d xs : List ℕ) (at i : ℕ) where

@@ -44,3 +44,18 @@ between f lo hi e k low high = rw (le-ltb k lo low) at (below (λ n. cond (ltb n
 
 pub same-between : (f : ℕ → ℕ) (v lo hi : ℕ) → allBelow (λ n. cond (ltb n lo) true (eqb v (f n))) hi ≡ true → (k : ℕ) → lo ≤ k → k < hi → v ≡ f k
 same-between f v lo hi e k low high = eqb-true v (f k) (between (λ n. eqb v (f n)) lo hi e k low high)
+
+-- ---- a match on numbers that follow each other
+
+-- A number is none of the k from `low` on.
+abbrev pub NoneFrom : ℕ → ℕ → ℕ → Type 0
+NoneFrom low zero n = Unit
+NoneFrom low (suc k) n = NoneFrom low k n × (n ≡ low + k → ⊥)
+
+-- Then it is past them.
+pub past : (low k n : ℕ) → low ≤ n → NoneFrom low k n → low + k ≤ n
+past low zero n h none = omega arith
+past low (suc k) n h none =
+    let before = past low k n h (none .0) in
+    let other = none .1 in
+    omega arith

@@ -1,18 +1,13 @@
 -- How long the log's lines are. Assumes nothing.
-use Prim.Native.Nat.{ℕ, _+_, _*_, _≤_}
+use Prim.Native.Nat.{ℕ, _+_, _*_}
 use mathlib.Core.Path.{_≡_, refl}
-use mathlib.Core.Bool.{Bool, true, false}
 use mathlib.Core.List.{List, [], _∷_}
 use native.Mathlib.Omega.{arith}
 use lib.ListN.{length, length-append}
-use lib.Dec.{leb}
-use borrow.Author.Tests.{leb-true, leb-false}
 use Rattle.text.specs.Numerals.{digitCount}
-use Rattle.text.proofs.Truth.{below}
 use Rattle.text.proofs.DigitLaws.{length-digits}
 use Rattle.text.proofs.DecimalLaws.{length-decimal}
 use Rattle.isa.specs.Registers.{ioName}
-use Rattle.isa.proofs.IoLaws.{no-name-above}
 use Rattle.trace.specs.LogLines.{registerFields, lineT, lineH, lineLD}
 
 -- ---- T
@@ -29,15 +24,6 @@ unfolding lineT
 length-T pc word rs = simp (length-append, length-digits, length-fields) (omega arith)
 
 -- ---- H, L and D
-
--- The longest name of an I/O register is `timercurrent`.
-pub length-name : (n : ℕ) → length (ioName n) ≤ 12
-unfolding ioName
-length-name n = go (leb n 22) refl
-  where
-    go : (t : Bool) → leb n 22 ≡ t → length (ioName n) ≤ 12
-    go true e = let low = leb-true n 22 e in leb-true _ _ (below (λ k. leb (length (ioName k)) 12) 23 refl n (omega arith))
-    go false e = let high = leb-false n 22 e in rw (no-name-above n (omega arith)) (omega arith)
 
 -- The letter, four spaces, eight digits and the LF, beside the cycle, READ or WRITE and the name.
 pub length-H : (c : ℕ) (way : List ℕ) (n x : ℕ) → length (lineH c way n x) ≡ 14 + digitCount 10 c + length way + length (ioName n)

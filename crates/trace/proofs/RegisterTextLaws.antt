@@ -1,7 +1,7 @@
 -- The text of registers that is kept beside them. Assumes nothing.
 use Prim.Native.Nat.{ℕ, zero, suc, _+_, _*_, _≤_, _<_}
 use mathlib.Core.Path.{_≡_, refl, _∙_, ap}
-use mathlib.Core.List.{List, [], _∷_, _++_, append-assoc, append-nil}
+use mathlib.Core.List.{List, [], _∷_, _++_, append-assoc}
 use native.Mathlib.Nat.{zero-add, suc-add}
 use native.Mathlib.Omega.{arith}
 use native.Mathlib.Numerals.{add-one}
@@ -12,7 +12,7 @@ use Rattle.text.specs.Numerals.{digits}
 use Rattle.text.specs.Lines.{LF}
 use Rattle.text.specs.Place.{put}
 use Rattle.text.proofs.DigitLaws.{length-digits}
-use Rattle.text.proofs.PutLaws.{put-one, put-front}
+use Rattle.text.proofs.PutLaws.{put-one, put-front, put-all}
 use Rattle.trace.specs.LogLines.{field, registerFields, registersText}
 use Rattle.trace.proofs.PieceLaws.{more}
 use Rattle.trace.proofs.LengthLaws.{length-fields}
@@ -32,10 +32,6 @@ put-after (b ∷ a) d at xs = rw (suc-add, put-past, put-after a d at xs)
 -- What is laid over a front that is as long takes its place.
 put-over : (a b d : List ℕ) → length b ≡ length a → put (a ++ d) 0 b ≡ b ++ d
 put-over a b d e = put-front (a ++ d) b (rw (length-append, e) (omega arith)) ∙ rw (e, drop-at a d (length a) refl)
-
--- A text laid over all of a list that is as long.
-put-whole : (d xs : List ℕ) → length xs ≡ length d → put d 0 xs ≡ xs
-put-whole d xs e = simp append-nil at (put-over d xs [] e)
 
 -- ---- one register is changed
 
@@ -77,4 +73,4 @@ module _ (regs : List ℕ) (n : ℕ) where
 -- The text of 13 registers is all of 118 bytes.
 pub lay-whole : (regs kept : List ℕ) → length regs ≡ 16 → length kept ≡ 118 → put kept 0 (registersText (drop 3 regs)) ≡ registersText (drop 3 regs)
 unfolding registersText
-lay-whole regs kept p q = put-whole kept (registersText (drop 3 regs)) (simp (length-append, length-fields, length-drop) (omega arith))
+lay-whole regs kept p q = put-all kept (registersText (drop 3 regs)) (simp (length-append, length-fields, length-drop) (omega arith))

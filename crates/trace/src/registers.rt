@@ -4,7 +4,7 @@ use text::digits::put_hex;
 use text::lines::LF;
 ghost use mathlib.Core.Path.{_≡_};
 ghost use mathlib.Core.List.{List};
-ghost use Prim.Native.Nat.{ℕ, _≤_, _<_};
+ghost use Prim.Native.Nat.{ℕ, _<_};
 ghost use lib.ListN.{length, set, drop};
 ghost use Rattle.text.specs.Numerals.{HexPairs};
 ghost use Rattle.trace.specs.LogLines.{registersText};

@@ -1,10 +1,9 @@
 -- Products of words, words read as signed numbers, and the last arm of a match on a number. Assumes nothing.
-use Prim.Native.Nat.{ℕ, zero, suc, _-_, _*_, _^_, _≤_, _<_, zero-le}
-use mathlib.Core.Path.{_≡_, refl, sym, _∙_, ap}
+use Prim.Native.Nat.{ℕ, suc, _-_, _*_, _^_, _≤_, _<_, zero-le}
+use mathlib.Core.Path.{_≡_, refl, _∙_, ap}
 use mathlib.Core.Bool.{Bool, true, false}
-use native.Mathlib.Nat.{le-antisymm, le-of-suc-le-suc, lt-of-le-of-lt, mul-le-mul}
+use native.Mathlib.Nat.{lt-of-le-of-lt, mul-le-mul}
 use native.Mathlib.Omega.{arith}
-use lib.Arith.{lt-of-le-ne}
 use lib.Dec.{ltb}
 use lib.IntN.{ℤ, pos, negsuc}
 use lib.Signed.{mag, ltZ, shrZ, mag-shr}
@@ -12,6 +11,7 @@ use mir.Syntax.{w32, w64}
 use mir.Val.{Fits, sel, toZ, ofZ}
 use mir.Facts.{fits-below, toZ-pos, toZ-ofZ}
 use borrow.Author.Tests.{ltb-true, ltb-false}
+use Rattle.text.proofs.Truth.{NoneFrom, past}
 
 -- The product of two words fits 64 bits.
 pub product-fits : {x y : ℕ} → Fits w32 x → Fits w32 y → Fits w64 (x * y)
@@ -50,16 +50,6 @@ shifted {z} m h e = rw (toZ-ofZ {w = w32} {z = z} (record { sfits = h })) (reads
 
 -- ---- a match on a number
 
--- A number is none of those below k.
-abbrev pub NoneBelow : ℕ → ℕ → Type 0
-NoneBelow zero n = Unit
-NoneBelow (suc k) n = NoneBelow k n × (n ≡ k → ⊥)
-
--- Then it is k or more.
-past : (k n : ℕ) → NoneBelow k n → k ≤ n
-past zero n h = zero-le
-past (suc k) n h = lt-of-le-ne (past k n (h .0)) (λ e. h .1 (sym e))
-
--- Then it is k, where it is below k + 1.
-pub last : (k n : ℕ) → n < suc k → NoneBelow k n → n ≡ k
-last k n h none = le-antisymm (le-of-suc-le-suc h) (past k n none)
+-- A number below k + 1 that is none below k is k.
+pub last : (k n : ℕ) → n < suc k → NoneFrom 0 k n → n ≡ k
+last k n h none = let least = past 0 k n zero-le none in omega arith

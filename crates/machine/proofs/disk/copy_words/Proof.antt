@@ -4,7 +4,8 @@ use mathlib.Core.Path.{_≡_, refl, _∙_}
 use native.Mathlib.Omega.{arith}
 use lib.ListN.{length, drop, length-set}
 use Rattle.text.specs.Place.{put}
-use Rattle.machine.proofs.CopyLaws.{whole-turn, whole-end, put-all}
+use Rattle.text.proofs.PutLaws.{put-all}
+use Rattle.machine.proofs.CopyLaws.{whole-turn, whole-end}
 use Rattle.machine.proofs.disk.copy_words.Statement.{statement}
 use Rattle.machine.proofs.disk.copy_words.Tie as tie
 

@@ -4,7 +4,7 @@ use borrow.Author.Needs.{needs}
 use Rattle.isa.specs.Operations.{operationOf}
 use Rattle.isa.proofs.OperationLaws.{unknown-above}
 use Rattle.machine.specs.Execution.{executed}
-use Rattle.machine.proofs.StepLaws.{past}
+use Rattle.text.proofs.Truth.{past}
 use Rattle.machine.proofs.execute.execute.Statement.{statement}
 use Rattle.machine.proofs.execute.execute.Tie as tie
 

@@ -4,7 +4,7 @@ use native.Mathlib.Omega.{arith}
 use borrow.Author.Needs.{needs}
 use Rattle.text.proofs.PutLaws.{put-nil}
 use Rattle.machine.specs.Log.{ioLines}
-use Rattle.machine.proofs.PackLaws.{listed-lt}
+use Rattle.isa.proofs.IoLaws.{listed-lt}
 use Rattle.machine.proofs.io_lines.put_read_line.Statement.{statement}
 use Rattle.machine.proofs.io_lines.put_read_line.Tie as tie
 

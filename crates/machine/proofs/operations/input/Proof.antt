@@ -3,7 +3,7 @@ use mathlib.Core.Path.{refl, sym, _∙_, ap}
 use lib.ListN.{drop}
 use borrow.Author.Needs.{needs}
 use Rattle.machine.specs.Execution.{onward, executed}
-use Rattle.machine.proofs.PackLaws.{listed-lt}
+use Rattle.isa.proofs.IoLaws.{listed-lt}
 use Rattle.machine.proofs.RegisterLaws.{register-put}
 use Rattle.machine.proofs.operations.input.Statement.{statement}
 use Rattle.machine.proofs.operations.input.Tie as tie

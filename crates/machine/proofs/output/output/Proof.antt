@@ -2,7 +2,7 @@
 use mathlib.Core.Path.{refl, sym, _∙_}
 use borrow.Author.Needs.{needs}
 use Rattle.machine.specs.Execution.{executed}
-use Rattle.machine.proofs.PackLaws.{listed-lt}
+use Rattle.isa.proofs.IoLaws.{listed-lt}
 use Rattle.machine.proofs.output.output.Statement.{statement}
 use Rattle.machine.proofs.output.output.Tie as tie
 

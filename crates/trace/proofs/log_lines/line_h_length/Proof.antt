@@ -1,7 +1,8 @@
 -- `trace::log_lines::line_h_length` meets its contract.
 use native.Mathlib.Omega.{arith}
 use borrow.Author.Needs.{needs}
-use Rattle.trace.proofs.LengthLaws.{length-name, length-H}
+use Rattle.isa.proofs.IoLaws.{name-length}
+use Rattle.trace.proofs.LengthLaws.{length-H}
 use Rattle.trace.proofs.log_lines.line_h_length.Statement.{statement}
 use Rattle.trace.proofs.log_lines.line_h_length.Tie as tie
 
@@ -15,10 +16,10 @@ io-name-length-requires : tie.Need-io-name-length-requires
 io-name-length-requires c κs = search needs
 
 add-result-2 : tie.Need-add-result-2
-add-result-2 c = omega (arith, length-name (c .before .before .args .n))
+add-result-2 c = omega (arith, name-length (c .before .before .args .n))
 
 add-result-3 : tie.Need-add-result-3
-add-result-3 c = omega (arith, length-name (c .before .before .args .n))
+add-result-3 c = omega (arith, name-length (c .before .before .args .n))
 
 returns : tie.Need-returns
 returns c = λ s x e. rw length-H (omega arith)

@@ -8,7 +8,7 @@ use lib.ListN.{length, getD, set, length-set}
 use lib.Dec.{eqb, ltb}
 use lib.Seq.{getD-set-same, getD-set-other}
 use borrow.Author.Tests.{lt-ltb, ne-eqb}
-use Rattle.devices.specs.Numbers.{irq1status, diskcmd, diskstatus, deviceCount}
+use Rattle.devices.specs.Numbers.{irq1status, diskcmd, diskstatus, deviceRegisters}
 use Rattle.devices.specs.Disk.{leftAfter, diskAfter, freed}
 
 pub length-freed : (io : List ℕ) → length (freed io) ≡ length io
@@ -24,7 +24,7 @@ length-disk began left io = go (ltb 0 began) (eqb (left - 1) 0)
     go false b = refl
 
 -- A disk that gets free: no command, not busy, its interrupt asked for.
-pub free-disk : (io : List ℕ) → deviceCount ≤ length io
+pub free-disk : (io : List ℕ) → deviceRegisters ≤ length io
     → (getD (freed io) diskcmd 0 ≡ 0) × (getD (freed io) diskstatus 0 ≡ 0) × (getD (freed io) irq1status 0 ≡ 1)
 unfolding freed
 free-disk io has =

@@ -8,7 +8,7 @@ use lib.ListN.{length, getD, set, length-set}
 use lib.Dec.{eqb}
 use lib.Seq.{getD-set-same, getD-set-other}
 use borrow.Author.Tests.{eq-eqb, ne-eqb}
-use Rattle.devices.specs.Numbers.{irq0status, timerenable, timercurrent, timermax, deviceCount}
+use Rattle.devices.specs.Numbers.{irq0status, timerenable, timercurrent, timermax, deviceRegisters}
 use Rattle.devices.specs.Timer.{timed}
 
 pub length-timed : (io : List ℕ) → length (timed io) ≡ length io
@@ -21,7 +21,7 @@ length-timed io = go (eqb (getD io timerenable 0) 1) (eqb (getD io timercurrent 
     go true false = simp length-set
     go false b = refl
 
-module _ (io : List ℕ) (has : deviceCount ≤ length io) where
+module _ (io : List ℕ) (has : deviceRegisters ≤ length io) where
   -- A timer that is not enabled does nothing.
   pub timer-off : (getD io timerenable 0 ≡ 1 → ⊥) → timed io ≡ io
   unfolding timed

@@ -19,7 +19,11 @@ three-steps : getD (timed (timed (timed enabled))) irq0status 0 ≡ 1
 unfolding enabled timed
 three-steps = refl
 
--- Above timermax the timer counts on and wraps.
+-- Above timermax the timer counts on, and wraps.
+counts-on : getD (timed (set enabled timercurrent 3)) timercurrent 7 ≡ 4
+unfolding enabled timed
+counts-on = refl
+
 wraps : getD (timed (set enabled timercurrent 0xFFFFFFFF)) timercurrent 7 ≡ 0
 unfolding enabled timed
 wraps = refl

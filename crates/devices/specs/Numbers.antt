@@ -23,5 +23,5 @@ abbrev pub diskstatus : ℕ
 diskstatus = 17
 
 -- One more than the largest of them: I/O registers of at least so many places have them all.
-abbrev pub deviceCount : ℕ
-deviceCount = 18
+abbrev pub deviceRegisters : ℕ
+deviceRegisters = 18

@@ -6,12 +6,12 @@ use crate::numbers::TIMERMAX;
 ghost use mathlib.Core.Path.{_≡_};
 ghost use Prim.Native.Nat.{_≤_};
 ghost use lib.ListN.{length};
-ghost use Rattle.devices.specs.Numbers.{deviceCount};
+ghost use Rattle.devices.specs.Numbers.{deviceRegisters};
 ghost use Rattle.devices.specs.Timer.{timed};
 
 // The timer's step of a cycle.
 pub fn step_timer(io: &mut [u32])
-    requires { ⌜ deviceCount ≤ length (now io) ⌝ }
+    requires { ⌜ deviceRegisters ≤ length (now io) ⌝ }
     ensures { λ _. ⌜ now (io .exit) ≡ timed (now (io .entry)) ⌝ }
 {
     if io[TIMERENABLE] != 1 {

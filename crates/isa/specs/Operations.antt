@@ -32,7 +32,8 @@ unfoldable pub operationOf : ℕ → Operation
 unfolding operations
 operationOf n = getD operations n unknown
 
--- The calculation of an opcode from 0 to 8, and the comparison of one from 9 to 14.
+-- The calculation of an opcode from 0 to 8, and the comparison of one from 9 to 14 (for the code: `calculation-at` and `comparison-at` tie them
+-- to `operationOf`).
 unfoldable pub calculationOf : ℕ → Calculation
 unfolding calculations
 calculationOf n = getD calculations n add

@@ -80,7 +80,7 @@ unfoldable pub ioBits : ℕ → ℕ
 unfolding ioRegisters
 ioBits n = getD ioRegisters n notListed .bits
 
--- "I/O number .. listed"
+-- "I/O number not listed" is status 4: those that have bits are listed.
 abbrev pub isListed : ℕ → Bool
 isListed n = ltb 0 (ioBits n)
 

@@ -14,7 +14,7 @@ use Rattle.words.specs.Words.{holds}
 use Rattle.machine.specs.State.{Machine, ioAt}
 use Rattle.machine.specs.Interrupts.{isAsked, irq2Raised, interrupted}
 use Rattle.machine.specs.declared.Operands.{Operands}
-use Rattle.machine.specs.Execution.{fetched, operandsOf, address, isFree, isReadOrWrite, onward, accepted, commanded, painted, outputted, executed, fetchedAndExecuted}
+use Rattle.machine.specs.Execution.{fetched, operandsOf, address, isFree, isReadOrWrite, onward, attempted, commanded, painted, outputted, executed, fetchedAndExecuted}
 use Rattle.machine.specs.Cycle.{isOutput, timerStepped, diskStepped, counted, atFetch, stepped, isCommand, acceptsAtFetch}
 use Rattle.machine.proofs.Choice.{either}
 
@@ -35,7 +35,7 @@ left-at-fetch hit m =
 
 -- While the disk is busy no instruction changes left.
 pub left-kept : (k : Operation) (o : Operands) (m : Machine) → isFree m ≡ false → KeepsLeft m (executed k o m)
-unfolding executed outputted commanded accepted painted
+unfolding executed outputted commanded attempted painted
 left-kept (calculate k) o m busy = record { same = refl }
 left-kept (branch k) o m busy = either (KeepsLeft m) (holds k (o .rs) (o .rt)) (record { same = refl }) (record { same = refl })
 left-kept jal o m busy = record { same = refl }
@@ -56,7 +56,7 @@ left-kept unknown o m busy = record { same = refl }
 
 -- A command that is accepted leaves 1,024 cycles to go.
 command-left : (k : Operation) (o : Operands) (m : Machine) → isCommand k o m ≡ true → executed k o m .core .left ≡ 1024
-unfolding isCommand executed outputted commanded accepted ioBits
+unfolding isCommand executed outputted commanded attempted ioBits
 command-left (calculate k) o m h = absurd (false≢true h)
 command-left (branch k) o m h = absurd (false≢true h)
 command-left jal o m h = absurd (false≢true h)

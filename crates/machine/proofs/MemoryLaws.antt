@@ -16,7 +16,7 @@ use Rattle.machine.specs.declared.Core.{Core}
 use Rattle.machine.specs.State.{Machine, ioAt}
 use Rattle.machine.specs.Interrupts.{isAsked, irq2Raised, interrupted}
 use Rattle.machine.specs.declared.Operands.{Operands}
-use Rattle.machine.specs.Execution.{fetched, operandsOf, address, isFree, isReadOrWrite, sector, buffer, copied, accepted, commanded, painted, outputted, executed, fetchedAndExecuted}
+use Rattle.machine.specs.Execution.{fetched, operandsOf, address, isFree, isReadOrWrite, sector, buffer, copied, attempted, commanded, painted, outputted, executed, fetchedAndExecuted}
 use Rattle.machine.specs.Cycle.{timerStepped, diskStepped, counted, atFetch, stepped}
 use Rattle.machine.specs.Soundness.{Sound}
 use Rattle.words.proofs.FitLaws.{wrapped}
@@ -52,7 +52,7 @@ lengths-copied command m =
     (record { memory = refl; disk = length-sets (m .disk) (128 * ioAt disksector m) (buffer m); frame = refl })
 
 lengths-commanded : (low : ℕ) (m : Machine) → KeepsLengths m (commanded low m)
-unfolding commanded accepted
+unfolding commanded attempted
 lengths-commanded low m =
     let moved = lengths-copied low m in
     either (KeepsLengths m) (isFree m)
@@ -146,7 +146,7 @@ fits-copied command m h =
     (record { memory = h .memory; disk = below-sets (2 ^ 32) (m .disk) (128 * ioAt disksector m) (buffer m) (h .disk) from-memory; frame = h .frame })
 
 fits-commanded : (low : ℕ) (m : Machine) → Fits m → Fits (commanded low m)
-unfolding commanded accepted
+unfolding commanded attempted
 fits-commanded low m h =
     either Fits (isFree m) (either Fits (isReadOrWrite low) (either Fits (leb (ioAt diskbuffer m) 3968) (fits (fits-copied low m h)) (fits h)) (fits h)) (fits h)
 

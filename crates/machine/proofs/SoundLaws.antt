@@ -20,7 +20,7 @@ use Rattle.words.specs.Words.{holds, plus}
 use Rattle.machine.specs.State.{Machine, registers, putRegister, ioAt, putIo, withPc, withStatus, withHandler, withLeft, withRegs, withIo}
 use Rattle.machine.specs.Interrupts.{isAsked, irq2Raised, interrupted}
 use Rattle.machine.specs.declared.Operands.{Operands}
-use Rattle.machine.specs.Execution.{fetched, operandsOf, address, isFree, isReadOrWrite, onward, jumped, ended, copied, begun, accepted, commanded, painted, outputted, executed, fetchedAndExecuted}
+use Rattle.machine.specs.Execution.{fetched, operandsOf, address, isFree, isReadOrWrite, onward, jumped, ended, copied, begun, attempted, commanded, painted, outputted, executed, fetchedAndExecuted}
 use Rattle.machine.specs.Cycle.{acceptsAtFetch, atFetch, timerStepped, diskStepped, counted, stepped}
 use Rattle.machine.specs.Soundness.{keptBits, SoundTo}
 use Rattle.words.proofs.FitLaws.{wrapped, calculated-lt}
@@ -163,7 +163,7 @@ module _ (limit : ℕ) where
       }
 
   sound-commanded : (low : ℕ) (m : Machine) → SoundMachine limit m → SoundMachine limit (commanded low m)
-  unfolding commanded accepted
+  unfolding commanded attempted
   sound-commanded low m s = go (isFree m) refl (isReadOrWrite low) refl
     where
       go : (a : Bool) → isFree m ≡ a → (b : Bool) → isReadOrWrite low ≡ b

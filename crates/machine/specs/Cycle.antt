@@ -1,18 +1,18 @@
 -- One cycle of the plain machine: its seven steps.
 use Prim.Native.Nat.{ℕ, zero, suc, _+_, _-_, _%_, _^_}
-use mathlib.Core.Bool.{Bool, true, false, not, _&&_}
+use mathlib.Core.Bool.{Bool, true, false, cond, not, _&&_, _||_}
 use mathlib.Core.List.{List}
-use lib.Dec.{eqb, leb}
+use lib.Dec.{eqb}
 use Rattle.devices.specs.Timer.{timed}
 use Rattle.devices.specs.Disk.{leftAfter, diskAfter}
 use Rattle.isa.specs.Word.{fieldsOf}
 use Rattle.isa.specs.Operations.{Operation, operationOf, calculate, branch, jal, lw, sw, reti, input, output, halt, unknown}
-use Rattle.isa.specs.Registers.{clks, diskcmd, diskbuffer}
+use Rattle.isa.specs.Registers.{clks, diskcmd}
 use Rattle.words.specs.Words.{plus}
 use Rattle.machine.specs.declared.Operands.{Operands}
 use Rattle.machine.specs.State.{Machine, ioAt, putIo, withIo, withLeft, withAge}
 use Rattle.machine.specs.Interrupts.{isIn, irq2Raised, interrupted}
-use Rattle.machine.specs.Execution.{fetched, operandsOf, address, isFree, isReadOrWrite, fetchedAndExecuted}
+use Rattle.machine.specs.Execution.{fetched, operandsOf, address, isFree, isReadOrWrite, hasRoom, fetchedAndExecuted}
 
 -- "5. Timer, if enabled now .."
 unfoldable pub timerStepped : Machine → Machine
@@ -38,13 +38,6 @@ stepped image hit m = counted (diskStepped (m .core .left) (timerStepped (fetche
 abbrev pub cycle : List ℕ → List ℕ → Machine → Machine
 cycle image irq2 m = stepped image (isIn (m .core .age) irq2) m
 
--- "it has stopped when its status is not 0, is at the cycle limit when its age is 2^40-1, and makes no cycle after either."
-abbrev pub isStopped : Machine → Bool
-isStopped m = not (eqb (m .core .status) 0)
-
-abbrev pub isAtLimit : Machine → Bool
-isAtLimit m = eqb (m .core .age) (2 ^ 40 - 1)
-
 -- "A disk command is accepted in cycle c when an out in it gives diskcmd low bits 1 or 2, diskstatus being 0 and diskbuffer at most 3968": of
 -- an instruction that finds the machine so at step 3, and of the cycle that m makes next.
 abbrev pub isOutput : Operation → Bool
@@ -60,7 +53,7 @@ isOutput halt = false
 isOutput unknown = false
 
 unfoldable pub isCommand : Operation → Operands → Machine → Bool
-isCommand k o m = isOutput k && eqb (address o) diskcmd && isReadOrWrite (o .rm % 4) && isFree m && leb (ioAt diskbuffer m) 3968
+isCommand k o m = isOutput k && eqb (address o) diskcmd && isReadOrWrite (o .rm % 4) && isFree m && hasRoom m
 
 unfoldable pub acceptsAtFetch : List ℕ → Machine → Bool
 acceptsAtFetch image m =
@@ -70,7 +63,16 @@ acceptsAtFetch image m =
 abbrev pub acceptsCommand : List ℕ → List ℕ → Machine → Bool
 acceptsCommand image irq2 m = acceptsAtFetch image (atFetch (isIn (m .core .age) irq2) m)
 
--- So many cycles, one after the other.
+-- "it has stopped when its status is not 0, is at the cycle limit when its age is 2^40-1, and makes no cycle after either."
+abbrev pub isStopped : Machine → Bool
+isStopped m = not (eqb (m .core .status) 0)
+
+abbrev pub isAtLimit : Machine → Bool
+isAtLimit m = eqb (m .core .age) (2 ^ 40 - 1)
+
+-- The plain machine after so many cycles, or fewer where it can make no more.
 unfoldable pub cycles : ℕ → List ℕ → List ℕ → Machine → Machine
 cycles zero image irq2 m = m
-cycles (suc n) image irq2 m = cycles n image irq2 (cycle image irq2 m)
+cycles (suc n) image irq2 m =
+    let more = cycles n image irq2 (cycle image irq2 m) in
+    cond (isStopped m || isAtLimit m) m more

@@ -2,18 +2,18 @@
 use Prim.Native.Nat.{ℕ}
 use mathlib.Core.Path.{_≡_, refl}
 use mathlib.Core.List.{List, [], _∷_, _++_}
-use lib.ListN.{getD, replicate}
+use lib.ListN.{getD, drop, replicate}
 use Rattle.text.specs.Bytes.{bytes}
 use Rattle.text.specs.Numerals.{digits, decimal, digitCount, digitCountUpTo}
 use Rattle.text.specs.Place.{put}
 use Rattle.devices.specs.Timer.{timed}
 use Rattle.devices.specs.Disk.{freed}
 use Rattle.isa.specs.Operations.{output, operationOf}
-use Rattle.isa.specs.Registers.{ioName, ioBits, diskcmd, diskbuffer, irq2enable, irq2status, leds}
+use Rattle.isa.specs.Registers.{ioName, ioBits, diskcmd, disksector, diskbuffer, irq2enable, irq2status, irqhandler, irqreturn, leds, monitoraddr, monitordata, monitorcmd}
 use Rattle.trace.specs.LogLines.{registerFields, lineT, lineH, lineLD}
-use Rattle.machine.specs.State.{Machine, freshMachine, withPc, withAge, withRegs, ioAt, putIo}
+use Rattle.machine.specs.State.{Machine, freshMachine, withHandler, withPc, withAge, withRegs, ioAt, putIo}
 use Rattle.machine.specs.Interrupts.{isIn, irq2Raised, interrupted}
-use Rattle.machine.specs.Execution.{accepted, commanded, painted, outputted, executed, fetchedAndExecuted}
+use Rattle.machine.specs.Execution.{attempted, commanded, painted, outputted, executed, fetchedAndExecuted}
 use Rattle.machine.specs.Cycle.{timerStepped, diskStepped, counted, atFetch, stepped, cycle}
 use Rattle.machine.specs.Log.{changeLines, ioLines, linesAtFetch, cycleLines}
 
@@ -31,31 +31,38 @@ unfolding program start linesAtFetch lineT lineH lineLD changeLines ioLines regi
 first-lines = refl
 
 second-lines : cycleLines program [] (cycle program [] start) ≡ bytes "T 001 150000000000 00000000 00000000 00000000 00000000 00000000 00000000 00000000 00000000 00000000 00000000 00000000 00000000 00000000 00000000 00000000 00000000\n"
-unfolding program start linesAtFetch lineT lineH lineLD changeLines ioLines registerFields atFetch interrupted irq2Raised isIn operationOf ioBits ioName digits decimal digitCount digitCountUpTo stepped counted diskStepped timerStepped fetchedAndExecuted executed outputted commanded accepted painted timed freed put
+unfolding program start linesAtFetch lineT lineH lineLD changeLines ioLines registerFields atFetch interrupted irq2Raised isIn operationOf ioBits ioName digits decimal digitCount digitCountUpTo stepped counted diskStepped timerStepped fetchedAndExecuted executed outputted commanded attempted painted timed freed put
 second-lines = refl
 
 -- "E 1 2 ..": it is halted after two cycles, which both count.
 halted : cycle program [] (cycle program [] start) .core ≡ record { status = 1; handler = 0; pc = 1; age = 2; left = 0 }
-unfolding program start stepped counted diskStepped timerStepped fetchedAndExecuted executed outputted commanded accepted painted atFetch interrupted irq2Raised isIn operationOf ioBits timed freed put
+unfolding program start stepped counted diskStepped timerStepped fetchedAndExecuted executed outputted commanded attempted painted atFetch interrupted irq2Raised isIn operationOf ioBits timed freed put
 halted = refl
 
 -- ---- single cycles
 
--- "jal at 4095 links 0": jal $ra, to 0.
-jal-links : getD (cycle (replicate 4095 0 ++ (0x0FF000000000 ∷ [])) [] (withPc 4095 start) .regs) 12 7 ≡ 0
-unfolding start stepped counted diskStepped timerStepped fetchedAndExecuted executed outputted commanded accepted painted atFetch interrupted irq2Raised isIn operationOf ioBits timed freed put
+-- "jal at 4095 links 0": jal $ra, to 0x123.
+linked : Machine
+linked = cycle (replicate 4095 0 ++ (0x0FF001123000 ∷ [])) [] (withRegs (replicate 12 0 ++ (7 ∷ [])) (withPc 4095 start))
+
+jal-links : getD (linked .regs) 12 7 ≡ 0
+unfolding linked start stepped counted diskStepped timerStepped fetchedAndExecuted executed outputted commanded attempted painted atFetch interrupted irq2Raised isIn operationOf ioBits timed freed put
 jal-links = refl
+
+jal-jumps : linked .core .pc ≡ 0x123
+unfolding linked start stepped counted diskStepped timerStepped fetchedAndExecuted executed outputted commanded attempted painted atFetch interrupted irq2Raised isIn operationOf ioBits timed freed put
+jal-jumps = refl
 
 -- "address 4095 read, 4096 status 3": lw $a0 from the address in $v0.
 loader : ℕ → Machine
 loader address = withRegs (address ∷ replicate 12 0) (freshMachine (replicate 4095 0 ++ (0xABC ∷ [])) [] [])
 
 read-4095 : getD (cycle (0x104300000000 ∷ []) [] (loader 4095) .regs) 1 7 ≡ 0xABC
-unfolding loader stepped counted diskStepped timerStepped fetchedAndExecuted executed outputted commanded accepted painted atFetch interrupted irq2Raised isIn operationOf ioBits timed freed put
+unfolding loader stepped counted diskStepped timerStepped fetchedAndExecuted executed outputted commanded attempted painted atFetch interrupted irq2Raised isIn operationOf ioBits timed freed put
 read-4095 = refl
 
 fault-4096 : cycle (0x104300000000 ∷ []) [] (loader 4096) .core ≡ record { status = 3; handler = 0; pc = 0; age = 1; left = 0 }
-unfolding loader stepped counted diskStepped timerStepped fetchedAndExecuted executed outputted commanded accepted painted atFetch interrupted irq2Raised isIn operationOf ioBits timed freed put
+unfolding loader stepped counted diskStepped timerStepped fetchedAndExecuted executed outputted commanded attempted painted atFetch interrupted irq2Raised isIn operationOf ioBits timed freed put
 fault-4096 = refl
 
 -- "diskbuffer 3968 accepted, 3969 status 5": out of 1 to diskcmd, from imm1 and imm2.
@@ -63,12 +70,46 @@ reader : ℕ → Machine
 reader buffer = putIo diskbuffer buffer (freshMachine [] [] [])
 
 command-accepted : cycle (0x14010200E001 ∷ []) [] (reader 3968) .core ≡ record { status = 0; handler = 0; pc = 1; age = 1; left = 1024 }
-unfolding reader stepped counted diskStepped timerStepped fetchedAndExecuted executed outputted commanded accepted painted atFetch interrupted irq2Raised isIn operationOf ioBits timed freed put
+unfolding reader stepped counted diskStepped timerStepped fetchedAndExecuted executed outputted commanded attempted painted atFetch interrupted irq2Raised isIn operationOf ioBits timed freed put
 command-accepted = refl
 
 command-refused : cycle (0x14010200E001 ∷ []) [] (reader 3969) .core ≡ record { status = 5; handler = 0; pc = 0; age = 1; left = 0 }
-unfolding reader stepped counted diskStepped timerStepped fetchedAndExecuted executed outputted commanded accepted painted atFetch interrupted irq2Raised isIn operationOf ioBits timed freed put
+unfolding reader stepped counted diskStepped timerStepped fetchedAndExecuted executed outputted commanded attempted painted atFetch interrupted irq2Raised isIn operationOf ioBits timed freed put
 command-refused = refl
+
+-- "A read command copies sector disksector to M from diskbuffer up, a write command copies back, whole, in this step": sector 1, M from 3 up.
+copier : Machine
+copier = putIo disksector 1 (putIo diskbuffer 3 (freshMachine (replicate 140 6) (replicate 128 4 ++ replicate 128 5 ++ replicate 8 4) []))
+
+was-read : cycle (0x14010200E001 ∷ []) [] copier .memory ≡ replicate 3 6 ++ replicate 128 5 ++ replicate 9 6
+unfolding copier stepped counted diskStepped timerStepped fetchedAndExecuted executed outputted commanded attempted painted atFetch interrupted irq2Raised isIn operationOf ioBits timed freed put
+was-read = refl
+
+was-written : cycle (0x14010200E002 ∷ []) [] copier .disk ≡ replicate 128 4 ++ replicate 128 6 ++ replicate 8 4
+unfolding copier stepped counted diskStepped timerStepped fetchedAndExecuted executed outputted commanded attempted painted atFetch interrupted irq2Raised isIn operationOf ioBits timed freed put
+was-written = refl
+
+-- "left = 1024, diskstatus = 1", and diskcmd reads as the command.
+is-busy : drop 14 (cycle (0x14010200E002 ∷ []) [] copier .io) ≡ 2 ∷ 1 ∷ 3 ∷ 1 ∷ replicate 5 0
+unfolding copier stepped counted diskStepped timerStepped fetchedAndExecuted executed outputted commanded attempted painted atFetch interrupted irq2Raised isIn operationOf ioBits timed freed put
+is-busy = refl
+
+-- "writing an odd value sets frame[monitoraddr] to monitordata": out of 3 to monitorcmd, which holds 0 after it.
+painter : Machine
+painter = cycle (0x140102016003 ∷ []) [] (putIo monitoraddr 2 (putIo monitordata 0x77 (freshMachine [] [] (replicate 4 0))))
+
+pixel : painter .frame ≡ 0 ∷ 0 ∷ 0x77 ∷ 0 ∷ []
+unfolding painter stepped counted diskStepped timerStepped fetchedAndExecuted executed outputted commanded attempted painted atFetch interrupted irq2Raised isIn operationOf ioBits timed freed put
+pixel = refl
+
+holds-none : ioAt monitorcmd painter ≡ 0
+unfolding painter stepped counted diskStepped timerStepped fetchedAndExecuted executed outputted commanded attempted painted atFetch interrupted irq2Raised isIn operationOf ioBits timed freed put
+holds-none = refl
+
+-- "reti: PC = irqreturn; the handler flag falls."
+returned : cycle (0x120000000000 ∷ []) [] (withHandler 1 (putIo irqreturn 0x45 start)) .core ≡ record { status = 0; handler = 0; pc = 0x45; age = 1; left = 0 }
+unfolding start stepped counted diskStepped timerStepped fetchedAndExecuted executed outputted commanded attempted painted atFetch interrupted irq2Raised isIn operationOf ioBits timed freed put
+returned = refl
 
 -- "status 5 does" log line H.
 refused-logs : ioLines 0 output (record { rs = 0; rt = diskcmd; rm = 1; rd = 0; target = 0 }) (reader 3969 .io) ≡ bytes "H 0 WRITE diskcmd 00000001\n"
@@ -77,21 +118,26 @@ refused-logs = refl
 
 -- "If c is in the irq2 list", c being the age: clks, which a program may set, is 0 here.
 irq2-by-age : ioAt irq2status (cycle (0 ∷ []) (7 ∷ []) (withAge 7 start)) ≡ 1
-unfolding start stepped counted diskStepped timerStepped fetchedAndExecuted executed outputted commanded accepted painted atFetch interrupted irq2Raised isIn operationOf ioBits timed freed put
+unfolding start stepped counted diskStepped timerStepped fetchedAndExecuted executed outputted commanded attempted painted atFetch interrupted irq2Raised isIn operationOf ioBits timed freed put
 irq2-by-age = refl
 
 -- ---- "Mistakes to exclude"
 
--- "clearing the status bits on entry": irq2 asks in cycle 0, the handler flag rises, and irq2status is still 1 after the cycle.
+-- "clearing the status bits on entry": irq2 asks in cycle 0 at PC 5, irqreturn = PC, PC = irqhandler, the handler flag rises, and irq2status is
+-- still 1 after the cycle.
 entered : Machine
-entered = cycle (0 ∷ []) (0 ∷ []) (putIo irq2enable 1 start)
+entered = cycle (0 ∷ []) (0 ∷ []) (putIo irq2enable 1 (putIo irqhandler 0x20 (withPc 5 start)))
 
-entry-rises : entered .core ≡ record { status = 0; handler = 1; pc = 1; age = 1; left = 0 }
-unfolding entered start stepped counted diskStepped timerStepped fetchedAndExecuted executed outputted commanded accepted painted atFetch interrupted irq2Raised isIn operationOf ioBits timed freed put
+entry-rises : entered .core ≡ record { status = 0; handler = 1; pc = 0x21; age = 1; left = 0 }
+unfolding entered start stepped counted diskStepped timerStepped fetchedAndExecuted executed outputted commanded attempted painted atFetch interrupted irq2Raised isIn operationOf ioBits timed freed put
 entry-rises = refl
 
+entry-returns : ioAt irqreturn entered ≡ 5
+unfolding entered start stepped counted diskStepped timerStepped fetchedAndExecuted executed outputted commanded attempted painted atFetch interrupted irq2Raised isIn operationOf ioBits timed freed put
+entry-returns = refl
+
 entry-keeps-status : ioAt irq2status entered ≡ 1
-unfolding entered start stepped counted diskStepped timerStepped fetchedAndExecuted executed outputted commanded accepted painted atFetch interrupted irq2Raised isIn operationOf ioBits timed freed put
+unfolding entered start stepped counted diskStepped timerStepped fetchedAndExecuted executed outputted commanded attempted painted atFetch interrupted irq2Raised isIn operationOf ioBits timed freed put
 entry-keeps-status = refl
 
 -- "an L line for an unchanged out": 5 to leds that hold 5.
@@ -99,9 +145,9 @@ unchanged-leds : changeLines 0 leds 5 (putIo leds 5 start .io) ≡ []
 unfolding start changeLines lineLD
 unchanged-leds = refl
 
--- "branching on rd": beq $imm2, $zero, $zero, $imm1, 0x123, 0x456 jumps to R[rm], which is 0x123.
+-- "branching on rd": beq $imm2, $zero, $zero, $imm1, 0x123, 0x456 compares 0 with 0, not R[rd], which is 0x456, and jumps to R[rm], 0x123.
 branch-to-rm : cycle (0x092001123456 ∷ []) [] start .core .pc ≡ 0x123
-unfolding start stepped counted diskStepped timerStepped fetchedAndExecuted executed outputted commanded accepted painted atFetch interrupted irq2Raised isIn operationOf ioBits timed freed put
+unfolding start stepped counted diskStepped timerStepped fetchedAndExecuted executed outputted commanded attempted painted atFetch interrupted irq2Raised isIn operationOf ioBits timed freed put
 branch-to-rm = refl
 
 -- "a halt or fault whose cycle isn't counted": `halted` and `fault-4096` above.

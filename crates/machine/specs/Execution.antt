@@ -15,7 +15,7 @@ use Rattle.machine.specs.State.{Machine, registers, putRegister, ioAt, p
 
 -- ---- 3. Fetch
 
--- The word at PC, and its fields.
+-- The word at PC.
 abbrev pub fetched : List ℕ → Machine → ℕ
 fetched image m = getD image (m .core .pc) 0
 
@@ -72,14 +72,18 @@ isReadOrWrite low = leb 1 low && leb low 2
 abbrev pub begun : ℕ → Machine → Machine
 begun command m = withLeft 1024 (putIo diskstatus 1 (putIo diskcmd command (copied command m)))
 
+-- A sector from diskbuffer up lies within M.
+abbrev pub hasRoom : Machine → Bool
+hasRoom m = leb (ioAt diskbuffer m) 3968
+
 -- A read or write that finds the disk free: "5 diskbuffer above 3968 at a disk command, which is then not accepted".
-unfoldable pub accepted : ℕ → Machine → Machine
-accepted command m = cond (leb (ioAt diskbuffer m) 3968) (onward (begun command m)) (ended 5 m)
+unfoldable pub attempted : ℕ → Machine → Machine
+attempted command m = cond (hasRoom m) (onward (begun command m)) (ended 5 m)
 
 -- "diskcmd ignores writes while diskstatus is 1; free, it takes 1 (read) or 2 (write) as a command and stores 0 for 0 or 3". `low` are the
 -- low bits.
 unfoldable pub commanded : ℕ → Machine → Machine
-commanded low m = cond (isFree m) (cond (isReadOrWrite low) (accepted low m) (onward (putIo diskcmd 0 m))) (onward m)
+commanded low m = cond (isFree m) (cond (isReadOrWrite low) (attempted low m) (onward (putIo diskcmd 0 m))) (onward m)
 
 -- "monitorcmd always holds 0; writing an odd value sets frame[monitoraddr] to monitordata."
 unfoldable pub painted : ℕ → Machine → Machine

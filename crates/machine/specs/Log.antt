@@ -50,7 +50,7 @@ cycleLines image irq2 m = linesAtFetch image (atFetch (isIn (m .core .age) irq2)
 
 -- ---- a machine and its log
 
--- The machine, the log's place and the bytes up to it written so far.
+-- The machine, its log, and the place in the log after the lines written so far; what lies beyond keeps its contents.
 pub record Traced : Type 0 where
   pub machine : Machine
   pub log : List ℕ

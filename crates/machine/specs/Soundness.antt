@@ -14,8 +14,8 @@ abbrev pub keptBits : ℕ → ℕ
 keptBits n = cond (eqb n monitorcmd) 0 (ioBits n)
 
 -- Each I/O register fits.
-abbrev pub Fitting : List ℕ → Type 0
-Fitting io = (n : ℕ) → getD io n 0 < 2 ^ keptBits n
+abbrev pub FittingIo : List ℕ → Type 0
+FittingIo io = (n : ℕ) → getD io n 0 < 2 ^ keptBits n
 
 -- The scalars, the age below a limit.
 pub record SoundCore (limit : ℕ) (c : Core) : Type 0 where
@@ -36,7 +36,7 @@ pub record SoundTo (limit : ℕ) (c : Core) (regs io : List ℕ) : Type 0 where
   pub thirteen : length regs ≡ 13
   pub registers : (n : ℕ) → getD regs n 0 < 2 ^ 32
   pub all : length io ≡ 23
-  pub fitting : Fitting io
+  pub fitting : FittingIo io
   pub disk : SoundDisk (c .left) io
 
 -- A sound record: "age (cycles done, 40 bits)".

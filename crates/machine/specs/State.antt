@@ -24,7 +24,7 @@ abbrev pub freshMachine : List ℕ → List ℕ → List ℕ → Machine
 freshMachine memory disk frame =
     record { core = freshCore; regs = replicate 13 0; io = replicate 23 0; memory = memory; disk = disk; frame = frame }
 
--- The same of the code's parts: of R0 to R15, those from R3 on.
+-- A machine from the parts that the code holds: of R0 to R15, those from R3 on.
 abbrev pub packed : Core → List ℕ → List ℕ → List ℕ → List ℕ → List ℕ → Machine
 packed c registers io memory disk frame =
     record { core = c; regs = drop 3 registers; io = io; memory = memory; disk = disk; frame = frame }

@@ -28,7 +28,7 @@ ghost use Rattle.machine.specs.Execution.{registersOf, operandsOf, fetch
 ghost use Rattle.machine.specs.Cycle.{timerStepped, diskStepped, counted, atFetch};
 ghost use Rattle.machine.specs.Log.{ioLines, linesAtFetch, traced, tracedOn};
 ghost use Rattle.machine.specs.Soundness.{Sound};
-ghost use Rattle.machine.specs.Lent.{Kept, Sized};
+ghost use Rattle.machine.specs.Lent.{Kept, Sized, Ready};
 
 // Makes one cycle and lays its lines into the log at a place. `hit`: the age is in the irq2 list.
 pub fn cycle(
@@ -46,7 +46,7 @@ pub fn cycle(
     pairs: &[u16; 256],
 ) -> Step
     requires { ⌜ Sound c (drop 3 (now regs)) (now io) ⌝ }
-    requires { ⌜ (length (now image) ≡ 4096) × (Kept (now regs) (now text) × (HexPairs (now pairs) × Sized (now io) (now memory) (now disk) (now frame))) ⌝ }
+    requires { ⌜ (length (now image) ≡ 4096) × (Kept (now regs) (now text) × (HexPairs (now pairs) × Sized (now memory) (now disk) (now frame))) ⌝ }
     requires { ⌜ at + length (linesAtFetch (now image) (atFetch hit (packed c (now regs) (now io) (now memory) (now disk) (now frame)))) ≤ length (now log) ⌝ }
     ensures { λ r. ⌜ traced (packed (r .core) (now (regs .exit)) (now (io .exit)) (now (memory .exit)) (now (disk .exit)) (now (frame .exit))) (now (log .exit)) (r .at) ≡ tracedOn (now (image .entry)) hit (traced (packed c (now (regs .entry)) (now (io .entry)) (now (memory .entry)) (now (disk .entry)) (now (frame .entry))) (now (log .entry)) at) ⌝ }
     ensures { λ r. ⌜ Kept (now (regs .exit)) (now (text .exit)) ⌝ }
@@ -88,7 +88,7 @@ fn fetch_and_execute(
     pairs: &[u16; 256],
 ) -> Step
     requires { ⌜ (c .pc < 4096) × (length (now image) ≡ 4096) ⌝ }
-    requires { ⌜ Kept (now regs) (now text) × (HexPairs (now pairs) × Sized (now io) (now memory) (now disk) (now frame)) ⌝ }
+    requires { ⌜ Kept (now regs) (now text) × (HexPairs (now pairs) × Ready (now io) (now memory) (now disk) (now frame)) ⌝ }
     requires { ⌜ at + length (linesAtFetch (now image) (packed c (now regs) (now io) (now memory) (now disk) (now frame))) ≤ length (now log) ⌝ }
     ensures { λ r. ⌜ packed (r .core) (now (regs .exit)) (now (io .exit)) (now (memory .exit)) (now (disk .exit)) (now (frame .exit)) ≡ fetchedAndExecuted (now (image .entry)) (packed c (now (regs .entry)) (now (io .entry)) (now (memory .entry)) (now (disk .entry)) (now (frame .entry))) ⌝ }
     ensures { λ r. ⌜ (now (log .exit) ≡ put (now (log .entry)) at (linesAtFetch (now (image .entry)) (packed c (now (regs .entry)) (now (io .entry)) (now (memory .entry)) (now (disk .entry)) (now (frame .entry))))) × (r .at ≡ at + length (linesAtFetch (now (image .entry)) (packed c (now (regs .entry)) (now (io .entry)) (now (memory .entry)) (now (disk .entry)) (now (frame .entry))))) ⌝ }

@@ -15,7 +15,7 @@ ghost use lib.ListN.{length, getD, take, drop};
 ghost use Rattle.text.specs.Place.{put};
 ghost use Rattle.isa.specs.Registers.{disksector};
 ghost use Rattle.machine.specs.State.{packed};
-ghost use Rattle.machine.specs.Execution.{accepted, commanded};
+ghost use Rattle.machine.specs.Execution.{attempted, commanded};
 
 // The words of a sector.
 const SECTOR: usize = 128;
@@ -47,7 +47,7 @@ pub fn command(c: Core, low: u32, io: &mut [u32; 23], memory: &mut [u32], disk: 
 // A read, 1, or write, 2, that finds the disk free.
 fn accept(c: Core, low: u32, io: &mut [u32; 23], memory: &mut [u32], disk: &mut [u32]) -> Core
     requires { ⌜ (length (now io) ≡ 23) × ((getD (now io) disksector 0 < 128) × ((length (now memory) ≡ 4096) × (length (now disk) ≡ 16384))) ⌝ }
-    ensures { λ r. ⌜ ((regs frame : List ℕ) → packed r regs (now (io .exit)) (now (memory .exit)) (now (disk .exit)) frame ≡ accepted low (packed c regs (now (io .entry)) (now (memory .entry)) (now (disk .entry)) frame)) ⌝ }
+    ensures { λ r. ⌜ ((regs frame : List ℕ) → packed r regs (now (io .exit)) (now (memory .exit)) (now (disk .exit)) frame ≡ attempted low (packed c regs (now (io .entry)) (now (memory .entry)) (now (disk .entry)) frame)) ⌝ }
 {
     let buffer = io[DISKBUFFER];
     if LAST_BUFFER < buffer {

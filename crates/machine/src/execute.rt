@@ -16,7 +16,7 @@ ghost use Rattle.text.specs.Numerals.{HexPairs};
 ghost use Rattle.isa.specs.Operations.{operationOf};
 ghost use Rattle.machine.specs.State.{packed};
 ghost use Rattle.machine.specs.Execution.{executed};
-ghost use Rattle.machine.specs.Lent.{Kept, Sized};
+ghost use Rattle.machine.specs.Lent.{Kept, Ready};
 
 // Executes an instruction on its operands.
 pub fn execute(
@@ -31,7 +31,7 @@ pub fn execute(
     frame: &mut [u8],
     pairs: &[u16; 256],
 ) -> Core
-    requires { ⌜ (o .target < 16) × (Kept (now regs) (now text) × (HexPairs (now pairs) × Sized (now io) (now memory) (now disk) (now frame))) ⌝ }
+    requires { ⌜ (o .target < 16) × (Kept (now regs) (now text) × (HexPairs (now pairs) × Ready (now io) (now memory) (now disk) (now frame))) ⌝ }
     ensures { λ r. ⌜ (packed r (now (regs .exit)) (now (io .exit)) (now (memory .exit)) (now (disk .exit)) (now (frame .exit)) ≡ executed (operationOf op) o (packed c (now (regs .entry)) (now (io .entry)) (now (memory .entry)) (now (disk .entry)) (now (frame .entry)))) × Kept (now (regs .exit)) (now (text .exit)) ⌝ }
 {
     match op {

@@ -19,8 +19,8 @@ ghost use Rattle.isa.specs.Operations.{output as outputOperation};
 ghost use Rattle.isa.specs.Registers.{monitoraddr, monitordata};
 ghost use Rattle.machine.specs.State.{packed};
 ghost use Rattle.machine.specs.Execution.{outputted, executed};
-ghost use Rattle.machine.specs.Soundness.{Fitting};
-ghost use Rattle.machine.specs.Lent.{Sized};
+ghost use Rattle.machine.specs.Soundness.{FittingIo};
+ghost use Rattle.machine.specs.Lent.{Ready};
 
 // out.
 pub fn output(
@@ -31,7 +31,7 @@ pub fn output(
     disk: &mut [u32],
     frame: &mut [u8],
 ) -> Core
-    requires { ⌜ Sized (now io) (now memory) (now disk) (now frame) ⌝ }
+    requires { ⌜ Ready (now io) (now memory) (now disk) (now frame) ⌝ }
     ensures { λ r. ⌜ ((regs : List ℕ) → packed r regs (now (io .exit)) (now (memory .exit)) (now (disk .exit)) (now (frame .exit)) ≡ executed outputOperation o (packed c regs (now (io .entry)) (now (memory .entry)) (now (disk .entry)) (now (frame .entry)))) ⌝ }
 {
     let a = plus(o.rs, o.rt);
@@ -51,7 +51,7 @@ fn put_io(
     disk: &mut [u32],
     frame: &mut [u8],
 ) -> Core
-    requires { ⌜ (a < 23) × Sized (now io) (now memory) (now disk) (now frame) ⌝ }
+    requires { ⌜ (a < 23) × Ready (now io) (now memory) (now disk) (now frame) ⌝ }
     ensures { λ r. ⌜ ((regs : List ℕ) → packed r regs (now (io .exit)) (now (memory .exit)) (now (disk .exit)) (now (frame .exit)) ≡ outputted a x (packed c regs (now (io .entry)) (now (memory .entry)) (now (disk .entry)) (now (frame .entry)))) ⌝ }
 {
     match a {
@@ -70,7 +70,7 @@ fn put_io(
 
 // monitorcmd: an odd value sets a place of the frame.
 fn paint(x: u32, io: &[u32; 23], frame: &mut [u8])
-    requires { ⌜ Fitting (now io) × (length (now frame) ≡ 65536) ⌝ }
+    requires { ⌜ FittingIo (now io) × (length (now frame) ≡ 65536) ⌝ }
     ensures { λ _. ⌜ now (frame .exit) ≡ cond (eqb (x % 2) 1) (set (now (frame .entry)) (getD (now (io .entry)) monitoraddr 0) (getD (now (io .entry)) monitordata 0)) (now (frame .entry)) ⌝ }
 {
     if x % 2 == 1 {

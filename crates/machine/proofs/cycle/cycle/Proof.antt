@@ -25,7 +25,7 @@ fetch-and-execute-requires c κs =
     let z = p .1 .0 .1 .1 .1 in (
       (s .core .pc, p .1 .0 .0),
       (
-        (p .1 .0 .1 .0, (p .1 .0 .1 .1 .0, record { all = s .all; fitting = s .fitting; words = z .words; sectors = z .sectors; pixels = z .pixels })),
+        (p .1 .0 .1 .0, (p .1 .0 .1 .1 .0, record { all = s .all; fitting = s .fitting; sized = z })),
         subst (λ (x : Machine). a .at + length (linesAtFetch (a .image .now) x) ≤ length (a .log .now)) (sym e) (p .1 .1),
       ),
     )

@@ -3,7 +3,7 @@ use mathlib.Core.Path.{refl, ap}
 use borrow.Author.Tests.{lt-leb, le-leb}
 use borrow.Author.Needs.{needs}
 use Rattle.machine.specs.State.{Machine, putIo, withLeft}
-use Rattle.machine.specs.Execution.{accepted, onward}
+use Rattle.machine.specs.Execution.{attempted, onward}
 use Rattle.machine.proofs.CopyLaws.{both-copied}
 use Rattle.machine.proofs.disk.accept.Statement.{statement}
 use Rattle.machine.proofs.disk.accept.Tie as tie
@@ -15,7 +15,7 @@ end-requires : tie.Need-end-requires
 end-requires c κs = search needs
 
 returns : tie.Need-returns
-unfolding accepted
+unfolding attempted
 returns c = λ regs frame. rw (lt-leb _ _ (c .before .if1 .taken), c .end .ensures) refl
 
 cast-copy-whole : tie.Need-cast-copy-whole
@@ -49,7 +49,7 @@ same-length-2 : tie.Need-same-length-2
 same-length-2 c = search needs
 
 returns-2 : tie.Need-returns-2
-unfolding accepted
+unfolding attempted
 returns-2 c = λ regs frame.
     let a = c .before .before .before .before .before .before .before .before .before .before .before .before .before .args in
     let w = c .before .before .before .before .before .copy-whole .ensures in

@@ -10,13 +10,13 @@ use Rattle.machine.proofs.output.put_io.Tie as tie
 
 command-requires : tie.Need-command-requires
 unfolding ioBits
-command-requires c κs = let p = c .before .before .before .before .before .before .before .pre in (p .1 .all, (p .1 .fitting 15, (p .1 .words, p .1 .sectors)))
+command-requires c κs = let p = c .before .before .before .before .before .before .before .pre in (p .1 .all, (p .1 .fitting 15, (p .1 .sized .memory-size, p .1 .sized .disk-size)))
 
 onward-requires : tie.Need-onward-requires
 onward-requires c κs = search needs
 
 paint-requires : tie.Need-paint-requires
-paint-requires c κs = let p = c .before .before .before .before .before .before .pre in (p .1 .fitting, p .1 .pixels)
+paint-requires c κs = let p = c .before .before .before .before .before .before .pre in (p .1 .fitting, p .1 .sized .frame-size)
 
 onward-requires-2 : tie.Need-onward-requires-2
 onward-requires-2 c κs = search needs

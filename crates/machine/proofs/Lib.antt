@@ -5,6 +5,7 @@ pub mod RegisterLaws
 pub mod CopyLaws
 pub mod StepLaws
 pub mod CycleLaws
+pub mod ImageLaws
 pub mod DiskLaws
 pub mod LineLaws
 pub mod Irq2Laws

@@ -3,7 +3,7 @@ use Prim.Native.Nat.{ℕ, _-_}
 use mathlib.Core.Bool.{cond}
 use mathlib.Core.List.{List, _∷_}
 use lib.Dec.{ltb}
-use lib.ListN.{getD, set, drop, replicate}
+use lib.ListN.{getD, set, replicate}
 use Rattle.machine.specs.declared.Core.{Core}
 
 -- "The record: status, handler flag, PC, age (cycles done, 40 bits), left (disk cycles to go), R3 to R15, the I/O registers": its scalars,
@@ -23,11 +23,6 @@ freshCore = record { status = 0; handler = 0; pc = 0; age = 0; left = 0 }
 abbrev pub freshMachine : List ℕ → List ℕ → List ℕ → Machine
 freshMachine memory disk frame =
     record { core = freshCore; regs = replicate 13 0; io = replicate 23 0; memory = memory; disk = disk; frame = frame }
-
--- A machine from the parts that the code holds: of R0 to R15, those from R3 on.
-abbrev pub packed : Core → List ℕ → List ℕ → List ℕ → List ℕ → List ℕ → Machine
-packed c registers io memory disk frame =
-    record { core = c; regs = drop 3 registers; io = io; memory = memory; disk = disk; frame = frame }
 
 -- ---- one part changed
 

@@ -1,15 +1,4 @@
-// The machine: its record, and one cycle with its log lines.
-
-pub mod cycle;
-pub mod disk;
-pub mod execute;
-pub mod interrupts;
-pub mod io_lines;
-pub mod lengths;
-pub mod operations;
-pub mod output;
-pub mod progress;
-pub mod registers;
+// The record of the machine, and what an instruction works on. What a cycle does with them stands in specs/.
 
 // The record's scalars: status, handler flag, PC, age (cycles done) and left (disk cycles to go).
 pub struct Core {
@@ -34,10 +23,4 @@ pub struct Operands {
     pub rm: u32,
     pub rd: u32,
     pub target: usize,
-}
-
-// What a cycle leaves: the scalars, and the log's place after its lines.
-pub struct Step {
-    pub core: Core,
-    pub at: usize,
 }

@@ -1,0 +1,56 @@
+-- Steps 5 to 7, and instructions that log nothing but T. Assumes nothing.
+use Prim.Native.Nat.{ℕ, zero, suc, _+_, _-_, _<_}
+use mathlib.Core.Path.{_≡_, refl}
+use mathlib.Core.Bool.{Bool, true, false}
+use mathlib.Core.List.{List, []}
+use native.Mathlib.Omega.{arith}
+use lib.Dec.{ltb}
+use lib.ListN.{getD, set}
+use borrow.Author.Tests.{ltb-true, ltb-false}
+use Rattle.devices.specs.Timer.{timed}
+use Rattle.devices.specs.Disk.{leftAfter, diskAfter}
+use Rattle.isa.specs.Operations.{operationOf}
+use Rattle.isa.specs.Registers.{clks}
+use Rattle.isa.proofs.OperationLaws.{calculation-at, comparison-at, unknown-above}
+use Rattle.words.specs.Words.{plus}
+use Rattle.machine.specs.declared.Core.{Core}
+use Rattle.machine.specs.declared.Operands.{Operands}
+use Rattle.machine.specs.State.{coreLeft, coreAge}
+use Rattle.simulator.specs.Lent.{packed}
+use Rattle.machine.specs.Cycle.{timerStepped, diskStepped, counted}
+use Rattle.machine.specs.Log.{ioLines}
+
+-- The timer's step, the disk's and the count, each by itself, are steps 5 to 7.
+pub ended-is : (began : ℕ) (c : Core) (regs io timer disk memory sectors frame : List ℕ) (left count : ℕ) → timer ≡ timed io
+    → left ≡ leftAfter began (c .left) → disk ≡ diskAfter began (c .left) timer → count ≡ plus (getD disk clks 0) 1
+    → packed (coreLeft left (coreAge (c .age + 1) c)) regs (set disk clks count) memory sectors frame
+    ≡ counted (diskStepped began (timerStepped (packed c regs io memory sectors frame)))
+unfolding counted diskStepped timerStepped
+ended-is began c regs io timer disk memory sectors frame left count t l d n = rw (n, d, l, t) refl
+
+-- 15 to 18 and 21 by themselves.
+single-lines : (c : ℕ) (o : Operands) (io : List ℕ) (k : ℕ) → k < 7 → (k ≡ 4 → ⊥) → (k ≡ 5 → ⊥) → ioLines c (operationOf (15 + k)) o io ≡ []
+unfolding operationOf ioLines
+single-lines c o io zero h r w = refl
+single-lines c o io (suc zero) h r w = refl
+single-lines c o io (suc (suc zero)) h r w = refl
+single-lines c o io (suc (suc (suc zero))) h r w = refl
+single-lines c o io (suc (suc (suc (suc zero)))) h r w = absurd (r refl)
+single-lines c o io (suc (suc (suc (suc (suc zero))))) h r w = absurd (w refl)
+single-lines c o io (suc (suc (suc (suc (suc (suc zero)))))) h r w = refl
+single-lines c o io (suc (suc (suc (suc (suc (suc (suc k))))))) h r w = absurd (omega arith)
+
+-- Only in and out, 19 and 20, log more than T.
+pub no-lines : (c op : ℕ) (o : Operands) (io : List ℕ) → (op ≡ 19 → ⊥) → (op ≡ 20 → ⊥) → ioLines c (operationOf op) o io ≡ []
+unfolding ioLines
+no-lines c op o io read write = go (ltb op 9) refl (ltb op 15) refl (ltb op 22) refl
+  where
+    go : (x : Bool) → ltb op 9 ≡ x → (y : Bool) → ltb op 15 ≡ y → (z : Bool) → ltb op 22 ≡ z → ioLines c (operationOf op) o io ≡ []
+    go true e y f z g = rw (calculation-at op (ltb-true op 9 e)) refl
+    go false e true f z g = rw (comparison-at op (ltb-false op 9 e) (ltb-true op 15 f)) refl
+    go false e false f true g =
+        let low = ltb-false op 15 f in
+        let high = ltb-true op 22 g in
+        let from : op ≡ 15 + (op - 15) = omega arith in
+        rw from (single-lines c o io (op - 15) (omega arith) (λ q. read (omega arith)) (λ q. write (omega arith)))
+    go false e false f false g = rw (unknown-above op (ltb-false op 22 g)) refl

@@ -1,0 +1,61 @@
+-- `simulator::cycle::put_lines` meets its contract.
+use mathlib.Core.Path.{_≡_}
+use mathlib.Core.List.{_∷_}
+use native.Mathlib.Omega.{arith}
+use lib.ListN.{length-append, getD, drop}
+use borrow.Author.Needs.{needs}
+use Rattle.trace.specs.LogLines.{lineT}
+use Rattle.trace.proofs.LengthLaws.{length-T}
+use Rattle.trace.proofs.PieceLaws.{more}
+use Rattle.simulator.proofs.RegisterLaws.{kept-length, by-immediates}
+use Rattle.simulator.proofs.cycle.put_lines.Statement.{statement}
+use Rattle.simulator.proofs.cycle.put_lines.Tie as tie
+
+element-copy-out-put-line-t : tie.Need-element-copy-out-put-line-t
+element-copy-out-put-line-t c = search needs
+
+element-copy-out-put-line-t-2 : tie.Need-element-copy-out-put-line-t-2
+element-copy-out-put-line-t-2 c = search needs
+
+put-line-t-requires : tie.Need-put-line-t-requires
+put-line-t-requires c κs =
+    let a = c .before .before .before .before .args in
+    let p = c .before .before .before .before .pre in
+    let room = rw length-append at (p .0) in
+    let line = length-T (a .c .pc) (a .word) (a .regs .now) in
+    (omega (arith, room, line, p .1 .0 .sixteen), (kept-length (p .1 .0), p .1 .1))
+
+put-io-lines-requires : tie.Need-put-io-lines-requires
+put-io-lines-requires c κs =
+    let a = c .before .before .before .before .before .before .before .before .args in
+    let p = c .before .before .before .before .before .before .before .before .pre in
+    let room = rw length-append at (p .0) in
+    let line = length-T (a .c .pc) (a .word) (a .regs .now) in
+    let t = c .before .before .before .put-line-t in
+    (omega (arith, room, line, p .1 .0 .sixteen, t .ensures .1, t .kept), p .1 .1)
+
+same-length : tie.Need-same-length
+same-length c = search needs
+
+returns : tie.Need-returns
+returns c =
+    let a = c .before .before .before .before .before .before .before .before .before .before .before .args in
+    let p = c .before .before .before .before .before .before .before .before .before .before .before .pre in
+    let t = c .before .before .before .before .before .before .put-line-t in
+    let h = c .before .before .put-io-lines in
+    let line = length-T (a .c .pc) (a .word) (a .regs .now) in
+    let are : (a .regs .now) ≡ 0 ∷ getD (a .regs .now) 1 0 ∷ getD (a .regs .now) 2 0 ∷ drop 3 (a .regs .now) = by-immediates (a .regs .now) (p .1 .0 .sixteen) (p .1 .0 .zero) in (
+      more (a .log .now) _ _ (a .at) (t .result) (lineT (a .c .pc) (a .word) (a .regs .now)) _ (omega (arith, line, p .1 .0 .sixteen, t .ensures .1)) (rw are (t .ensures .0 (drop 3 (a .regs .now)) (p .1 .0 .is))) (h .ensures .0),
+      rw length-append (omega (arith, line, p .1 .0 .sixteen, t .ensures .1, h .ensures .1)),
+    )
+
+pub put-lines-spec : {M : Type 1} → statement M
+put-lines-spec =
+    tie.close
+    (tie.spec
+    element-copy-out-put-line-t
+    element-copy-out-put-line-t-2
+    put-line-t-requires
+    put-io-lines-requires
+    same-length
+    returns)

@@ -1,0 +1,162 @@
+// One cycle, with its log lines.
+use crate::Step;
+use crate::execute::execute;
+use crate::interrupts::begin_cycle;
+use crate::io_lines::put_io_lines;
+use devices::disk::step_disk;
+use devices::timer::step_timer;
+use isa::Fields;
+use isa::io::CLKS;
+use isa::word::decode;
+use isa::word::sign_extend;
+use machine::Core;
+use machine::Operands;
+use trace::log_lines::put_line_t;
+use words::arithmetic::plus;
+ghost use mathlib.Core.Path.{_≡_};
+ghost use mathlib.Core.List.{List, _++_};
+ghost use Prim.Native.Nat.{ℕ, _+_, _^_, _≤_, _<_};
+ghost use lib.ListN.{length, getD, drop};
+ghost use Rattle.text.specs.Numerals.{HexPairs};
+ghost use Rattle.text.specs.Place.{put};
+ghost use Rattle.isa.specs.Word.{Fitting as FieldsFit};
+ghost use Rattle.isa.specs.Operations.{operationOf};
+ghost use Rattle.trace.specs.LogLines.{lineT};
+ghost use Rattle.machine.specs.declared.Core.{Core as CoreOf};
+ghost use Rattle.simulator.specs.Lent.{packed};
+ghost use Rattle.machine.specs.Execution.{registersOf, operandsOf, fetchedAndExecuted};
+ghost use Rattle.machine.specs.Cycle.{timerStepped, diskStepped, counted, atFetch};
+ghost use Rattle.machine.specs.Log.{ioLines, linesAtFetch, traced, tracedOn};
+ghost use Rattle.machine.specs.Soundness.{Sound};
+ghost use Rattle.simulator.specs.Lent.{Kept, Sized, Ready};
+
+// Makes one cycle and lays its lines into the log at a place. `hit`: the age is in the irq2 list.
+pub fn cycle(
+    c: Core,
+    hit: bool,
+    regs: &mut [u32; 16],
+    text: &mut [u8; 118],
+    io: &mut [u32; 23],
+    image: &[u64],
+    memory: &mut [u32],
+    disk: &mut [u32],
+    frame: &mut [u8],
+    log: &mut [u8],
+    at: usize,
+    pairs: &[u16; 256],
+) -> Step
+    requires { ⌜ Sound c (drop 3 (now regs)) (now io) ⌝ }
+    requires { ⌜ (length (now image) ≡ 4096) × (Kept (now regs) (now text) × (HexPairs (now pairs) × Sized (now memory) (now disk) (now frame))) ⌝ }
+    requires { ⌜ at + length (linesAtFetch (now image) (atFetch hit (packed c (now regs) (now io) (now memory) (now disk) (now frame)))) ≤ length (now log) ⌝ }
+    ensures { λ r. ⌜ traced (packed (r .core) (now (regs .exit)) (now (io .exit)) (now (memory .exit)) (now (disk .exit)) (now (frame .exit))) (now (log .exit)) (r .at) ≡ tracedOn (now (image .entry)) hit (traced (packed c (now (regs .entry)) (now (io .entry)) (now (memory .entry)) (now (disk .entry)) (now (frame .entry))) (now (log .entry)) at) ⌝ }
+    ensures { λ r. ⌜ Kept (now (regs .exit)) (now (text .exit)) ⌝ }
+{
+    let began = c.left;
+    let s = begin_cycle(c, hit, io);
+    let d = fetch_and_execute(
+        s,
+        regs,
+        text,
+        io,
+        image,
+        memory,
+        disk,
+        frame,
+        log,
+        at,
+        pairs,
+    );
+    let e = d.core;
+    Step {
+        core: end_cycle(began, e, io),
+        at: d.at,
+    }
+}
+
+// Steps 3 and 4.
+fn fetch_and_execute(
+    c: Core,
+    regs: &mut [u32; 16],
+    text: &mut [u8; 118],
+    io: &mut [u32; 23],
+    image: &[u64],
+    memory: &mut [u32],
+    disk: &mut [u32],
+    frame: &mut [u8],
+    log: &mut [u8],
+    at: usize,
+    pairs: &[u16; 256],
+) -> Step
+    requires { ⌜ (c .pc < 4096) × (length (now image) ≡ 4096) ⌝ }
+    requires { ⌜ Kept (now regs) (now text) × (HexPairs (now pairs) × Ready (now io) (now memory) (now disk) (now frame)) ⌝ }
+    requires { ⌜ at + length (linesAtFetch (now image) (packed c (now regs) (now io) (now memory) (now disk) (now frame))) ≤ length (now log) ⌝ }
+    ensures { λ r. ⌜ packed (r .core) (now (regs .exit)) (now (io .exit)) (now (memory .exit)) (now (disk .exit)) (now (frame .exit)) ≡ fetchedAndExecuted (now (image .entry)) (packed c (now (regs .entry)) (now (io .entry)) (now (memory .entry)) (now (disk .entry)) (now (frame .entry))) ⌝ }
+    ensures { λ r. ⌜ (now (log .exit) ≡ put (now (log .entry)) at (linesAtFetch (now (image .entry)) (packed c (now (regs .entry)) (now (io .entry)) (now (memory .entry)) (now (disk .entry)) (now (frame .entry))))) × (r .at ≡ at + length (linesAtFetch (now (image .entry)) (packed c (now (regs .entry)) (now (io .entry)) (now (memory .entry)) (now (disk .entry)) (now (frame .entry))))) ⌝ }
+    ensures { λ r. ⌜ Kept (now (regs .exit)) (now (text .exit)) ⌝ }
+{
+    let word = image[c.pc as usize];
+    let f = decode(word);
+    let o = read_operands(f, regs);
+    let end = put_lines(log, at, c, word, f.op, o, regs, text, io, pairs);
+    Step {
+        core: execute(f.op, c, o, regs, text, io, memory, disk, frame, pairs),
+        at: end,
+    }
+}
+
+// Sets R1 and R2 to the immediates and reads the operands.
+pub fn read_operands(f: Fields, regs: &mut [u32; 16]) -> Operands
+    requires { ⌜ FieldsFit f × ((length (now regs) ≡ 16) × (getD (now regs) 0 0 ≡ 0)) ⌝ }
+    ensures { λ r. ⌜ ((c : CoreOf) (io memory disk frame : List ℕ) → (r ≡ operandsOf f (packed c (now (regs .entry)) io memory disk frame)) × (now (regs .exit) ≡ registersOf f (packed c (now (regs .entry)) io memory disk frame))) ⌝ }
+{
+    regs[1] = sign_extend(f.imm1);
+    regs[2] = sign_extend(f.imm2);
+    let rs = f.rs;
+    let rt = f.rt;
+    let rm = f.rm;
+    let rd = f.rd;
+    Operands {
+        rs: regs[rs],
+        rt: regs[rt],
+        rm: regs[rm],
+        rd: regs[rd],
+        target: rd,
+    }
+}
+
+// Lays the lines of an instruction: T, and H, L and D where it has them.
+fn put_lines(
+    log: &mut [u8],
+    at: usize,
+    c: Core,
+    word: u64,
+    op: u32,
+    o: Operands,
+    regs: &[u32; 16],
+    text: &[u8; 118],
+    io: &[u32; 23],
+    pairs: &[u16; 256],
+) -> usize
+    requires { ⌜ (at + length (lineT (c .pc) word (now regs) ++ ioLines (c .age) (operationOf op) o (now io)) ≤ length (now log)) × (Kept (now regs) (now text) × HexPairs (now pairs)) ⌝ }
+    ensures { λ r. ⌜ (now (log .exit) ≡ put (now (log .entry)) at (lineT (c .pc) word (now (regs .entry)) ++ ioLines (c .age) (operationOf op) o (now (io .entry)))) × (r ≡ at + length (lineT (c .pc) word (now (regs .entry)) ++ ioLines (c .age) (operationOf op) o (now (io .entry)))) ⌝ }
+{
+    let line = put_line_t(log, at, c.pc, word, regs[1], regs[2], text, pairs);
+    put_io_lines(log, line, c.age, op, o, io, pairs)
+}
+
+// Steps 5 to 7; `began` are the disk cycles to go when the cycle began.
+fn end_cycle(began: u32, c: Core, io: &mut [u32; 23]) -> Core
+    requires { ⌜ (began ≤ c .left) × ((c .age < 2 ^ 40) × (length (now io) ≡ 23)) ⌝ }
+    ensures { λ r. ⌜ ((regs memory disk frame : List ℕ) → packed r regs (now (io .exit)) memory disk frame ≡ counted (diskStepped began (timerStepped (packed c regs (now (io .entry)) memory disk frame)))) ⌝ }
+{
+    step_timer(io);
+    let left = step_disk(began, c.left, io);
+    io[CLKS] = plus(io[CLKS], 1);
+    Core {
+        status: c.status,
+        handler: c.handler,
+        pc: c.pc,
+        age: c.age + 1,
+        left: left,
+    }
+}

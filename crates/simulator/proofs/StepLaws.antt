@@ -1,7 +1,7 @@
--- Steps 5 to 7, and instructions that log nothing but T. Assumes nothing.
+-- Steps 1 and 5 to 7, and instructions that log nothing but T. Assumes nothing.
 use Prim.Native.Nat.{ℕ, zero, suc, _+_, _-_, _<_}
-use mathlib.Core.Path.{_≡_, refl}
-use mathlib.Core.Bool.{Bool, true, false}
+use mathlib.Core.Path.{_≡_, refl, ap}
+use mathlib.Core.Bool.{Bool, true, false, cond}
 use mathlib.Core.List.{List, []}
 use native.Mathlib.Omega.{arith}
 use lib.Dec.{ltb}
@@ -10,15 +10,23 @@ use borrow.Author.Tests.{ltb-true, ltb-false}
 use Rattle.devices.specs.Timer.{timed}
 use Rattle.devices.specs.Disk.{leftAfter, diskAfter}
 use Rattle.isa.specs.Operations.{operationOf}
-use Rattle.isa.specs.Registers.{clks}
+use Rattle.isa.specs.Registers.{irq2status, clks}
 use Rattle.isa.proofs.OperationLaws.{calculation-at, comparison-at, unknown-above}
 use Rattle.words.specs.Words.{plus}
 use Rattle.machine.specs.declared.Core.{Core}
 use Rattle.machine.specs.declared.Operands.{Operands}
 use Rattle.machine.specs.State.{coreLeft, coreAge}
-use Rattle.simulator.specs.Lent.{packed}
+use Rattle.executor.specs.Lent.{packed}
+use Rattle.machine.specs.Interrupts.{irq2Raised}
 use Rattle.machine.specs.Cycle.{timerStepped, diskStepped, counted}
 use Rattle.machine.specs.Log.{ioLines}
+
+-- The I/O registers after step 1.
+pub raised-is : (c : Core) (regs io after memory disk frame : List ℕ) (hit : Bool) → after ≡ cond hit (set io irq2status 1) io
+    → packed c regs after memory disk frame ≡ irq2Raised hit (packed c regs io memory disk frame)
+unfolding irq2Raised
+raised-is c regs io after memory disk frame true e = ap (λ (x : List ℕ). packed c regs x memory disk frame) e
+raised-is c regs io after memory disk frame false e = ap (λ (x : List ℕ). packed c regs x memory disk frame) e
 
 -- The timer's step, the disk's and the count, each by itself, are steps 5 to 7.
 pub ended-is : (began : ℕ) (c : Core) (regs io timer disk memory sectors frame : List ℕ) (left count : ℕ) → timer ≡ timed io

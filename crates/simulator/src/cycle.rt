@@ -1,10 +1,10 @@
 // One cycle, with its log lines.
 use crate::Step;
-use crate::execute::execute;
 use crate::interrupts::begin_cycle;
 use crate::io_lines::put_io_lines;
 use devices::disk::step_disk;
 use devices::timer::step_timer;
+use executor::execute::execute;
 use isa::Fields;
 use isa::io::CLKS;
 use isa::word::decode;
@@ -23,12 +23,12 @@ ghost use Rattle.isa.specs.Word.{Fitting as FieldsFit};
 ghost use Rattle.isa.specs.Operations.{operationOf};
 ghost use Rattle.trace.specs.LogLines.{lineT};
 ghost use Rattle.machine.specs.declared.Core.{Core as CoreOf};
-ghost use Rattle.simulator.specs.Lent.{packed};
+ghost use Rattle.executor.specs.Lent.{packed};
 ghost use Rattle.machine.specs.Execution.{registersOf, operandsOf, fetchedAndExecuted};
 ghost use Rattle.machine.specs.Cycle.{timerStepped, diskStepped, counted, atFetch};
 ghost use Rattle.machine.specs.Log.{ioLines, linesAtFetch, traced, tracedOn};
 ghost use Rattle.machine.specs.Soundness.{Sound};
-ghost use Rattle.simulator.specs.Lent.{Kept, Sized, Ready};
+ghost use Rattle.executor.specs.Lent.{Kept, Sized, Ready};
 
 // Makes one cycle and lays its lines into the log at a place. `hit`: the age is in the irq2 list.
 pub fn cycle(

@@ -15,7 +15,7 @@ ghost use Prim.Native.Nat.{ℕ};
 ghost use lib.Dec.{eqb};
 ghost use lib.ListN.{set};
 ghost use Rattle.isa.specs.Registers.{irq2status};
-ghost use Rattle.simulator.specs.Lent.{packed};
+ghost use Rattle.executor.specs.Lent.{packed};
 ghost use Rattle.machine.specs.Interrupts.{isAsked, interrupted};
 ghost use Rattle.machine.specs.Cycle.{atFetch};
 

@@ -2,15 +2,9 @@
 use machine::Core;
 
 pub mod cycle;
-pub mod disk;
-pub mod execute;
 pub mod interrupts;
 pub mod io_lines;
 pub mod lengths;
-pub mod operations;
-pub mod output;
-pub mod progress;
-pub mod registers;
 
 // What a cycle leaves: the scalars, and the log's place after its lines.
 pub struct Step {

@@ -8,7 +8,7 @@ use Rattle.machine.specs.Cycle.{atFetch}
 use Rattle.machine.specs.Log.{linesAtFetch}
 use Rattle.machine.specs.Execution.{fetchedAndExecuted}
 use Rattle.machine.proofs.SoundLaws.{SoundMachine, sound-at-fetch, sound-fetched, left-not-less}
-use Rattle.simulator.specs.Lent.{packed}
+use Rattle.executor.specs.Lent.{packed}
 use Rattle.simulator.proofs.CycleLaws.{cycle-is}
 use Rattle.simulator.proofs.cycle.cycle.Statement.{statement}
 use Rattle.simulator.proofs.cycle.cycle.Tie as tie

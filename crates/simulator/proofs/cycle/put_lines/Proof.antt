@@ -4,10 +4,11 @@ use mathlib.Core.List.{_∷_}
 use native.Mathlib.Omega.{arith}
 use lib.ListN.{length-append, getD, drop}
 use borrow.Author.Needs.{needs}
+use Rattle.executor.proofs.RegisterLaws.{kept-length}
 use Rattle.trace.specs.LogLines.{lineT}
 use Rattle.trace.proofs.LengthLaws.{length-T}
 use Rattle.trace.proofs.PieceLaws.{more}
-use Rattle.simulator.proofs.RegisterLaws.{kept-length, by-immediates}
+use Rattle.simulator.proofs.OperandLaws.{by-immediates}
 use Rattle.simulator.proofs.cycle.put_lines.Statement.{statement}
 use Rattle.simulator.proofs.cycle.put_lines.Tie as tie
 

@@ -1,6 +1,6 @@
 -- `simulator::cycle::read_operands` meets its contract.
 use borrow.Author.Needs.{needs}
-use Rattle.simulator.proofs.RegisterLaws.{operands-read}
+use Rattle.simulator.proofs.OperandLaws.{operands-read}
 use Rattle.simulator.proofs.cycle.read_operands.Statement.{statement}
 use Rattle.simulator.proofs.cycle.read_operands.Tie as tie
 

@@ -3,7 +3,7 @@ use mathlib.Core.Path.{_∙_, ap}
 use borrow.Author.Needs.{needs}
 use Rattle.machine.specs.Interrupts.{interrupted}
 use Rattle.machine.specs.Cycle.{atFetch}
-use Rattle.simulator.proofs.PackLaws.{raised-is}
+use Rattle.simulator.proofs.StepLaws.{raised-is}
 use Rattle.simulator.proofs.interrupts.begin_cycle.Statement.{statement}
 use Rattle.simulator.proofs.interrupts.begin_cycle.Tie as tie
 

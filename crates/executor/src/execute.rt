@@ -1,0 +1,49 @@
+// Step 4 of a cycle: what an instruction does, by its opcode.
+use crate::operations::branch;
+use crate::operations::calculation;
+use crate::operations::input;
+use crate::operations::leave_handler;
+use crate::operations::link;
+use crate::operations::load;
+use crate::operations::store;
+use crate::output::output;
+use crate::progress::end;
+use machine::Core;
+use machine::Operands;
+ghost use mathlib.Core.Path.{_≡_};
+ghost use Prim.Native.Nat.{_<_};
+ghost use Rattle.text.specs.Numerals.{HexPairs};
+ghost use Rattle.isa.specs.Operations.{operationOf};
+ghost use Rattle.executor.specs.Lent.{packed};
+ghost use Rattle.machine.specs.Execution.{executed};
+ghost use Rattle.executor.specs.Lent.{Kept, Ready};
+
+// Executes an instruction on its operands.
+pub fn execute(
+    op: u32,
+    c: Core,
+    o: Operands,
+    regs: &mut [u32; 16],
+    text: &mut [u8; 118],
+    io: &mut [u32; 23],
+    memory: &mut [u32],
+    disk: &mut [u32],
+    frame: &mut [u8],
+    pairs: &[u16; 256],
+) -> Core
+    requires { ⌜ (o .target < 16) × (Kept (now regs) (now text) × (HexPairs (now pairs) × Ready (now io) (now memory) (now disk) (now frame))) ⌝ }
+    ensures { λ r. ⌜ (packed r (now (regs .exit)) (now (io .exit)) (now (memory .exit)) (now (disk .exit)) (now (frame .exit)) ≡ executed (operationOf op) o (packed c (now (regs .entry)) (now (io .entry)) (now (memory .entry)) (now (disk .entry)) (now (frame .entry)))) × Kept (now (regs .exit)) (now (text .exit)) ⌝ }
+{
+    match op {
+        0..=8 => calculation(op, c, o, regs, text, pairs),
+        9..=14 => branch(op, c, o),
+        15 => link(c, o, regs, text, pairs),
+        16 => load(c, o, regs, text, memory, pairs),
+        17 => store(c, o, memory),
+        18 => leave_handler(c, o, io),
+        19 => input(c, o, regs, text, io, pairs),
+        20 => output(c, o, io, memory, disk, frame),
+        21 => end(c, 1),
+        _ => end(c, 2),
+    }
+}

@@ -1,0 +1,26 @@
+// R0 to R15 in the code, and the text that is kept beside them.
+use trace::registers::keep_register;
+ghost use mathlib.Core.Path.{_≡_};
+ghost use Prim.Native.Nat.{_<_};
+ghost use lib.ListN.{drop};
+ghost use Rattle.text.specs.Numerals.{HexPairs};
+ghost use Rattle.machine.specs.State.{written};
+ghost use Rattle.executor.specs.Lent.{Kept};
+
+// R[n] becomes x; R0, R1 and R2 don't change.
+pub fn put_register(
+    regs: &mut [u32; 16],
+    text: &mut [u8; 118],
+    n: usize,
+    x: u32,
+    pairs: &[u16; 256],
+)
+    requires { ⌜ (n < 16) × (Kept (now regs) (now text) × HexPairs (now pairs)) ⌝ }
+    ensures { λ _. ⌜ (drop 3 (now (regs .exit)) ≡ written n x (drop 3 (now (regs .entry)))) × Kept (now (regs .exit)) (now (text .exit)) ⌝ }
+{
+    if n < 3 {
+        return;
+    }
+    regs[n] = x;
+    keep_register(text, n - 3, x, pairs);
+}

@@ -1,0 +1,32 @@
+-- R1, R2 and the operands of an instruction. Assumes nothing.
+use Prim.Native.Nat.{ℕ}
+use mathlib.Core.Path.{_≡_, refl, _∙_, ap}
+use mathlib.Core.List.{List, [], _∷_}
+use native.Mathlib.Omega.{arith}
+use lib.ListN.{length, getD, set, drop}
+use Rattle.isa.specs.declared.Fields.{Fields}
+use Rattle.isa.specs.Word.{signExtended}
+use Rattle.machine.specs.declared.Core.{Core}
+use Rattle.executor.specs.Lent.{packed}
+use Rattle.machine.specs.Execution.{operandsFrom, registersOf, operandsOf}
+
+-- R0 to R15 by R1 and R2.
+pub by-immediates : (r : List ℕ) → length r ≡ 16 → getD r 0 0 ≡ 0 → r ≡ 0 ∷ getD r 1 0 ∷ getD r 2 0 ∷ drop 3 r
+by-immediates [] h e = absurd (omega arith)
+by-immediates (x ∷ []) h e = absurd (omega arith)
+by-immediates (x ∷ y ∷ []) h e = absurd (omega arith)
+by-immediates (x ∷ y ∷ z ∷ r) h e = ap (λ (n : ℕ). n ∷ y ∷ z ∷ r) e
+
+-- R1 and R2 set.
+pub immediates-set : (r : List ℕ) (a b : ℕ) → length r ≡ 16 → getD r 0 0 ≡ 0 → set (set r 1 a) 2 b ≡ 0 ∷ a ∷ b ∷ drop 3 r
+immediates-set [] a b h e = absurd (omega arith)
+immediates-set (x ∷ []) a b h e = absurd (omega arith)
+immediates-set (x ∷ y ∷ []) a b h e = absurd (omega arith)
+immediates-set (x ∷ y ∷ z ∷ r) a b h e = ap (λ (n : ℕ). n ∷ a ∷ b ∷ r) e
+
+-- The operands that are read after R1 and R2 are set.
+pub operands-read : (f : Fields) (c : Core) (r io memory disk frame : List ℕ) (a b : ℕ) → length r ≡ 16 → getD r 0 0 ≡ 0 → a ≡ signExtended (f .imm1) → b ≡ signExtended (f .imm2)
+    → (operandsFrom f (set (set r 1 a) 2 b) ≡ operandsOf f (packed c r io memory disk frame)) × (set (set r 1 a) 2 b ≡ registersOf f (packed c r io memory disk frame))
+operands-read f c r io memory disk frame a b h z p q =
+    let are : set (set r 1 a) 2 b ≡ registersOf f (packed c r io memory disk frame) = immediates-set r a b h z ∙ rw (p, q) refl in
+    (ap (operandsFrom f) are, are)

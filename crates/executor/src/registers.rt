@@ -4,8 +4,7 @@ ghost use mathlib.Core.Path.{_≡_};
 ghost use Prim.Native.Nat.{_<_};
 ghost use lib.ListN.{drop};
 ghost use Rattle.text.specs.Numerals.{HexPairs};
-ghost use Rattle.machine.specs.State.{written};
-ghost use Rattle.executor.specs.Lent.{Kept};
+ghost use Rattle.executor.specs.Lent.{Kept, stored};
 
 // R[n] becomes x; R0, R1 and R2 don't change.
 pub fn put_register(
@@ -16,7 +15,7 @@ pub fn put_register(
     pairs: &[u16; 256],
 )
     requires { ⌜ (n < 16) × (Kept (now regs) (now text) × HexPairs (now pairs)) ⌝ }
-    ensures { λ _. ⌜ (drop 3 (now (regs .exit)) ≡ written n x (drop 3 (now (regs .entry)))) × Kept (now (regs .exit)) (now (text .exit)) ⌝ }
+    ensures { λ _. ⌜ (now (regs .exit) ≡ stored n x (now (regs .entry))) × Kept (now (regs .exit)) (now (text .exit)) ⌝ }
 {
     if n < 3 {
         return;

@@ -1,13 +1,15 @@
 -- R1, R2 and the operands of an instruction. Assumes nothing.
 use Prim.Native.Nat.{ℕ}
-use mathlib.Core.Path.{_≡_, refl, _∙_, ap}
-use mathlib.Core.List.{List, [], _∷_}
+use mathlib.Core.Path.{_≡_, refl, sym, _∙_, ap}
+use mathlib.Core.List.{List, [], _∷_, _++_}
 use native.Mathlib.Omega.{arith}
 use lib.ListN.{length, getD, set, drop}
 use Rattle.isa.specs.declared.Fields.{Fields}
 use Rattle.isa.specs.Word.{signExtended}
+use Rattle.trace.specs.LogLines.{frontT, lineT}
+use Rattle.trace.proofs.LineLaws.{line-t-is}
 use Rattle.machine.specs.declared.Core.{Core}
-use Rattle.executor.specs.Lent.{packed}
+use Rattle.executor.specs.Lent.{Kept, packed}
 use Rattle.machine.specs.Execution.{operandsFrom, registersOf, operandsOf}
 
 -- R0 to R15 by R1 and R2.
@@ -16,6 +18,13 @@ by-immediates [] h e = absurd (omega arith)
 by-immediates (x ∷ []) h e = absurd (omega arith)
 by-immediates (x ∷ y ∷ []) h e = absurd (omega arith)
 by-immediates (x ∷ y ∷ z ∷ r) h e = ap (λ (n : ℕ). n ∷ y ∷ z ∷ r) e
+
+-- The T line from its front and the text that is kept.
+pub line-of : (pc word : ℕ) (registers text : List ℕ) → Kept registers text → frontT pc word (getD registers 1 0) (getD registers 2 0) ++ text ≡ lineT pc word registers
+line-of pc word registers text k =
+    ap (λ (t : List ℕ). frontT pc word (getD registers 1 0) (getD registers 2 0) ++ t) (k .is)
+    ∙ line-t-is pc word (getD registers 1 0) (getD registers 2 0) (drop 3 registers)
+    ∙ ap (lineT pc word) (sym (by-immediates registers (k .sixteen) (k .zero)))
 
 -- R1 and R2 set.
 pub immediates-set : (r : List ℕ) (a b : ℕ) → length r ≡ 16 → getD r 0 0 ≡ 0 → set (set r 1 a) 2 b ≡ 0 ∷ a ∷ b ∷ drop 3 r

@@ -12,7 +12,7 @@ use Rattle.text.specs.Place.{put}
 use Rattle.text.proofs.DigitLaws.{length-digits}
 use Rattle.text.proofs.DecimalLaws.{length-decimal}
 use Rattle.isa.specs.Registers.{ioName}
-use Rattle.trace.specs.LogLines.{field, registerFields, registersText, lineT, lineH, lineLD}
+use Rattle.trace.specs.LogLines.{field, registerFields, registersText, frontT, lineT, lineH, lineLD}
 use Rattle.trace.proofs.PieceLaws.{more, after-store}
 
 -- ---- T
@@ -49,15 +49,19 @@ regroup : (f a b c rs l : List ℕ) → f ++ (a ++ b ++ c) ++ (rs ++ l) ≡ f ++
 regroup f a b c rs l = simp append-assoc
 
 -- The whole line: the registers after the first three are kept as text.
-pub line-t-laid : (pc word a b c at : ℕ) (rs kept d e f g : List ℕ) → kept ≡ registersText rs
-    → e ≡ put d at (front pc word) → f ≡ put e (at + 18) (three a b c) → g ≡ put f (at + 45) kept
-    → g ≡ put d at (lineT pc word (a ∷ b ∷ c ∷ rs))
-unfolding lineT registerFields registersText
-line-t-laid pc word a b c at rs kept d e f g text p q r =
-    more d f g at (at + 45) (front pc word ++ three a b c) (registersText rs) (simp (length-append, length-digits) (omega arith))
-    (more d e f at (at + 18) (front pc word) (three a b c) (simp (length-append, length-digits) (omega arith)) p q)
-    (rw text at r)
-    ∙ ap (put d at) (regroup (front pc word) (field (digits 16 8 a)) (field (digits 16 8 b)) (field (digits 16 8 c)) (registerFields rs) (LF ∷ []))
+pub line-t-laid : (pc word a b at : ℕ) (kept d e f g : List ℕ)
+    → e ≡ put d at (front pc word) → f ≡ put e (at + 18) (three 0 a b) → g ≡ put f (at + 45) kept
+    → g ≡ put d at (frontT pc word a b ++ kept)
+unfolding frontT
+line-t-laid pc word a b at kept d e f g p q r =
+    more d f g at (at + 45) (front pc word ++ three 0 a b) kept (simp (length-append, length-digits) (omega arith))
+    (more d e f at (at + 18) (front pc word) (three 0 a b) (simp (length-append, length-digits) (omega arith)) p q)
+    r
+
+-- It is the line T of R0 to R15.
+pub line-t-is : (pc word a b : ℕ) (rs : List ℕ) → frontT pc word a b ++ registersText rs ≡ lineT pc word (0 ∷ a ∷ b ∷ rs)
+unfolding frontT lineT registerFields registersText
+line-t-is pc word a b rs = regroup (front pc word) (field (digits 16 8 0)) (field (digits 16 8 a)) (field (digits 16 8 b)) (registerFields rs) (LF ∷ [])
 
 -- ---- H, L and D
 

@@ -27,6 +27,14 @@ lineH c way n x = bytes "H" ++ field (decimal c) ++ field way ++ field (ioName n
 unfoldable pub lineLD : List ℕ → ℕ → ℕ → List ℕ
 lineLD letter c x = letter ++ field (decimal c) ++ field (digits 16 8 x) ++ (LF ∷ [])
 
--- The text that is kept beside registers: the end of a T line (for the code).
+-- ---- a T line in two parts (for the code: `line-t-is`)
+
+-- Its front: the letter, PC, the word, R0 and the immediates, R1 and R2.
+unfoldable pub frontT : ℕ → ℕ → ℕ → ℕ → List ℕ
+frontT pc word imm1 imm2 =
+    bytes "T" ++ field (digits 16 3 pc) ++ field (digits 16 12 word)
+    ++ (field (digits 16 8 0) ++ field (digits 16 8 imm1) ++ field (digits 16 8 imm2))
+
+-- Its end, the text that is kept beside R3 to R15.
 unfoldable pub registersText : List ℕ → List ℕ
 registersText rs = registerFields rs ++ (LF ∷ [])

@@ -15,9 +15,9 @@ ghost use lib.ListN.{length};
 ghost use Rattle.text.specs.Bytes.{bytes};
 ghost use Rattle.text.specs.Numerals.{digits, HexPairs};
 ghost use Rattle.text.specs.Place.{put};
-ghost use Rattle.trace.specs.LogLines.{field, registersText, lineT, lineH, lineLD};
+ghost use Rattle.trace.specs.LogLines.{field, frontT, lineH, lineLD};
 
-// Lays the T line of an instruction at a place and returns the place after it. `kept` is the text of R3 to R15.
+// Lays the T line of an instruction at a place and returns the place after it: its front and `kept`, the text of R3 to R15.
 pub fn put_line_t(
     out: &mut [u8],
     at: usize,
@@ -29,7 +29,7 @@ pub fn put_line_t(
     pairs: &[u16; 256],
 ) -> usize
     requires { ⌜ (at + 163 ≤ length (now out)) × ((length (now kept) ≡ 118) × HexPairs (now pairs)) ⌝ }
-    ensures { λ r. ⌜ ((rs : List ℕ) → now (kept .entry) ≡ registersText rs → now (out .exit) ≡ put (now (out .entry)) at (lineT pc word (0 ∷ imm1 ∷ imm2 ∷ rs))) × (r ≡ at + 163) ⌝ }
+    ensures { λ r. ⌜ (now (out .exit) ≡ put (now (out .entry)) at (frontT pc word imm1 imm2 ++ now (kept .entry))) × (r ≡ at + 163) ⌝ }
 {
     put_instruction(out, at, pc, word, pairs);
     put_low_registers(out, at + 18, imm1, imm2, pairs);

@@ -3,10 +3,10 @@ use crate::fields::put_word;
 use text::digits::put_hex;
 use text::lines::LF;
 ghost use mathlib.Core.Path.{_≡_};
-ghost use mathlib.Core.List.{List};
-ghost use Prim.Native.Nat.{ℕ, _<_};
-ghost use lib.ListN.{length, set, drop};
-ghost use Rattle.text.specs.Numerals.{HexPairs};
+ghost use Prim.Native.Nat.{_+_, _*_, _<_};
+ghost use lib.ListN.{length, drop};
+ghost use Rattle.text.specs.Numerals.{digits, HexPairs};
+ghost use Rattle.text.specs.Place.{put};
 ghost use Rattle.trace.specs.LogLines.{registersText};
 
 // Lays the text of R3 to R15.
@@ -23,10 +23,10 @@ pub fn lay_registers(kept: &mut [u8; 118], regs: &[u32; 16], pairs: &[u16; 256])
     kept[117] = LF;
 }
 
-// Changes the text where the register n of R3 to R15, counted from 0, becomes x.
+// Changes the text where the register n of R3 to R15, counted from 0, becomes x (`text-set`).
 pub fn keep_register(kept: &mut [u8; 118], n: usize, x: u32, pairs: &[u16; 256])
     requires { ⌜ (n < 13) × ((length (now kept) ≡ 118) × HexPairs (now pairs)) ⌝ }
-    ensures { λ _. ⌜ ((rs : List ℕ) → n < length rs → now (kept .entry) ≡ registersText rs → now (kept .exit) ≡ registersText (set rs n x)) ⌝ }
+    ensures { λ _. ⌜ now (kept .exit) ≡ put (now (kept .entry)) (n * 9 + 1) (digits 16 8 x) ⌝ }
 {
     put_hex(kept, n * 9 + 1, 8, x as u64, pairs);
 }

@@ -24,7 +24,7 @@ returns c =
     let p = c .before .put-register .ensures in (
       λ io memory disk frame.
           rw (calculation-at (a .op) (c .before .before .before .before .before .pre .0), c .onward .ensures, ← c .before .before .calculate .ensures)
-          (ap onward (register-put (a .c) (drop 3 (a .regs .now)) io memory disk frame (a .o .target) (c .before .before .calculate .result) (p .0))),
+          (ap onward (register-put (a .c) (a .regs .now) _ io memory disk frame (a .o .target) (c .before .before .calculate .result) (p .0))),
       p .1,
     )
 

@@ -36,7 +36,7 @@ returns c =
     let p = c .before .put-register .ensures in (
       λ memory disk frame.
           rw (← c .before .before .before .before .before .before .before .plus .ensures, ← c .before .before .before .before .before .before .is-listed .ensures, c .before .before .before .before .before .if1 .taken, c .onward .ensures)
-          (ap onward (register-put (a .c) (drop 3 (a .regs .now)) (a .io .now) memory disk frame (a .o .target) _ (p .0))),
+          (ap onward (register-put (a .c) (a .regs .now) _ (a .io .now) memory disk frame (a .o .target) _ (p .0))),
       p .1,
     )
 

@@ -24,7 +24,7 @@ returns c =
     let p = c .before .put-register .ensures in (
       λ io memory disk frame.
           rw (c .jump .ensures, ← c .before .before .next .ensures)
-          (ap (λ (m : Machine). jumped (a .o .rm) m) (register-put (a .c) (drop 3 (a .regs .now)) io memory disk frame (a .o .target) (c .before .before .next .result) (p .0))),
+          (ap (λ (m : Machine). jumped (a .o .rm) m) (register-put (a .c) (a .regs .now) _ io memory disk frame (a .o .target) (c .before .before .next .result) (p .0))),
       p .1,
     )
 

@@ -43,7 +43,7 @@ returns-2 c =
     let p = c .before .put-register .ensures in (
       λ io disk frame.
           rw (← c .before .before .before .before .before .before .before .plus .ensures, lt-ltb _ _ (c .before .before .before .before .before .before .if1 .left), c .onward .ensures, ← c .before .before .plus2 .ensures)
-          (ap onward (register-put (a .c) (drop 3 (a .regs .now)) io (a .memory .now) disk frame (a .o .target) (c .before .before .plus2 .result) (p .0))),
+          (ap onward (register-put (a .c) (a .regs .now) _ io (a .memory .now) disk frame (a .o .target) (c .before .before .plus2 .result) (p .0))),
       p .1,
     )
 

@@ -1,14 +1,14 @@
 -- `simulator::cycle::put_lines` meets its contract.
-use mathlib.Core.Path.{_≡_}
-use mathlib.Core.List.{_∷_}
+use mathlib.Core.Path.{_∙_, ap}
 use native.Mathlib.Omega.{arith}
-use lib.ListN.{length-append, getD, drop}
+use lib.ListN.{length-append}
 use borrow.Author.Needs.{needs}
+use Rattle.text.specs.Place.{put}
 use Rattle.executor.proofs.RegisterLaws.{kept-length}
 use Rattle.trace.specs.LogLines.{lineT}
 use Rattle.trace.proofs.LengthLaws.{length-T}
 use Rattle.trace.proofs.PieceLaws.{more}
-use Rattle.simulator.proofs.OperandLaws.{by-immediates}
+use Rattle.simulator.proofs.OperandLaws.{line-of}
 use Rattle.simulator.proofs.cycle.put_lines.Statement.{statement}
 use Rattle.simulator.proofs.cycle.put_lines.Tie as tie
 
@@ -44,9 +44,8 @@ returns c =
     let p = c .before .before .before .before .before .before .before .before .before .before .before .pre in
     let t = c .before .before .before .before .before .before .put-line-t in
     let h = c .before .before .put-io-lines in
-    let line = length-T (a .c .pc) (a .word) (a .regs .now) in
-    let are : (a .regs .now) ≡ 0 ∷ getD (a .regs .now) 1 0 ∷ getD (a .regs .now) 2 0 ∷ drop 3 (a .regs .now) = by-immediates (a .regs .now) (p .1 .0 .sixteen) (p .1 .0 .zero) in (
-      more (a .log .now) _ _ (a .at) (t .result) (lineT (a .c .pc) (a .word) (a .regs .now)) _ (omega (arith, line, p .1 .0 .sixteen, t .ensures .1)) (rw are (t .ensures .0 (drop 3 (a .regs .now)) (p .1 .0 .is))) (h .ensures .0),
+    let line = length-T (a .c .pc) (a .word) (a .regs .now) in (
+      more (a .log .now) _ _ (a .at) (t .result) (lineT (a .c .pc) (a .word) (a .regs .now)) _ (omega (arith, line, p .1 .0 .sixteen, t .ensures .1)) (t .ensures .0 ∙ ap (put (a .log .now) (a .at)) (line-of (a .c .pc) (a .word) (a .regs .now) (a .text .now) (p .1 .0))) (h .ensures .0),
       rw length-append (omega (arith, line, p .1 .0 .sixteen, t .ensures .1, h .ensures .1)),
     )
 

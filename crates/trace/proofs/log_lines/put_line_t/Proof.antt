@@ -29,7 +29,7 @@ returns c =
     let instruction = c .before .before .before .before .before .before .before .before .before .before .before .put-instruction .ensures in
     let low = c .before .before .before .before .before .before .before .put-low-registers .ensures in
     let high = c .before .before .put-bytes .ensures in
-    (λ rs e. line-t-laid (a .pc) (a .word) 0 (a .imm1) (a .imm2) (a .at) rs (a .kept .now) (a .out .now) _ _ _ e instruction low (high .0), omega arith)
+    (line-t-laid (a .pc) (a .word) (a .imm1) (a .imm2) (a .at) (a .kept .now) (a .out .now) _ _ _ instruction low (high .0), omega arith)
 
 pub put-line-t-spec : {M : Type 1} → statement M
 put-line-t-spec =

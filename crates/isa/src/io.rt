@@ -11,9 +11,6 @@ ghost use Prim.Native.Nat.{_%_, _^_, _≤_, _<_};
 ghost use lib.ListN.{length};
 ghost use Rattle.isa.specs.Registers.{isListed, ioBits, ioName};
 
-// One more than the largest number.
-pub const IO_COUNT: usize = 23;
-
 pub const IRQ0ENABLE: usize = 0;
 
 pub const IRQ1ENABLE: usize = 1;
@@ -39,8 +36,6 @@ pub const DISKBUFFER: usize = 16;
 pub const MONITORADDR: usize = 20;
 
 pub const MONITORDATA: usize = 21;
-
-pub const MONITORCMD: usize = 22;
 
 // Whether a number is listed.
 pub fn is_listed(n: u32) -> bool

@@ -3,9 +3,9 @@ use Prim.Native.Nat.{ℕ, zero, suc, _+_, _-_, _%_, _^_, _≤_, _<_, zero-le}
 use mathlib.Core.Path.{_≡_, refl, _∙_}
 use mathlib.Core.Bool.{Bool, true, false, cond, _&&_}
 use mathlib.Core.List.{List}
-use native.Mathlib.Nat.{lt-of-lt-of-le}
+use native.Mathlib.Nat.{lt-of-lt-of-le, not-suc-le-zero, one-le-pow}
 use native.Mathlib.Omega.{arith}
-use lib.ListN.{length, getD, set, length-set}
+use lib.ListN.{length, getD, set, replicate, length-set}
 use lib.Dec.{eqb, leb, ltb}
 use lib.Seq.{getD-set-same, getD-set-other}
 use borrow.Author.Tests.{eqb-true, eqb-false, leb-true, ne-eqb}
@@ -17,18 +17,24 @@ use Rattle.devices.specs.Disk.{freed}
 use Rattle.devices.proofs.DiskLaws.{length-freed, free-disk}
 use Rattle.isa.specs.Word.{signExtended, fieldsOf}
 use Rattle.words.specs.Words.{holds, plus}
-use Rattle.machine.specs.State.{Machine, registers, putRegister, ioAt, putIo, withPc, withStatus, withHandler, withLeft, withRegs, withIo}
+use Rattle.machine.specs.State.{Machine, freshCore, registers, putRegister, ioAt, putIo, withPc, withStatus, withHandler, withLeft, withRegs, withIo}
 use Rattle.machine.specs.Interrupts.{isAsked, irq2Raised, interrupted}
 use Rattle.machine.specs.declared.Operands.{Operands}
 use Rattle.machine.specs.Execution.{fetched, operandsOf, address, isFree, isReadOrWrite, onward, jumped, ended, copied, begun, attempted, commanded, painted, outputted, executed, fetchedAndExecuted}
 use Rattle.machine.specs.Cycle.{acceptsAtFetch, atFetch, timerStepped, diskStepped, counted, stepped}
-use Rattle.machine.specs.Soundness.{keptBits, SoundTo}
+use Rattle.machine.specs.Soundness.{keptBits, SoundTo, Sound}
 use Rattle.words.proofs.FitLaws.{wrapped, calculated-lt}
 use Rattle.machine.proofs.SoundParts.{holds-after, sound-io, sound-core, sound-set, sound-core-to, kept-le, sign-lt}
 use Rattle.machine.proofs.DiskLaws.{command-free, left-at-fetch, left-kept, accepted-left, busy-left}
 use Rattle.machine.proofs.Choice.{either}
 
 -- ---- the machine
+
+-- Zeros are 0 at each place, and past their end.
+all-zero : (k n : ℕ) → getD {A = ℕ} (replicate k 0) n 0 ≡ 0
+all-zero zero n = refl
+all-zero (suc k) zero = refl
+all-zero (suc k) (suc n) = all-zero k n
 
 -- The machine's record is sound, its age below a limit.
 pub record SoundMachine (limit : ℕ) (m : Machine) : Type 0 where
@@ -304,6 +310,18 @@ sound-cycle image hit m s young =
           sound-core-to r
           (record { status = k .status; handler = k .handler; pc = k .pc; age = young; left = k .left });
     })
+
+-- The fresh record is sound.
+pub sound-fresh : Sound freshCore (replicate 13 0) (replicate 23 0)
+sound-fresh =
+    record {
+      core = record { status = zero-le; handler = omega arith; pc = omega arith; age = omega arith; left = zero-le };
+      thirteen = refl;
+      registers = λ n. rw (all-zero 13 n) (omega arith);
+      all = refl;
+      fitting = λ n. rw (all-zero 23 n) (one-le-pow (keptBits n) 2 (omega arith));
+      disk = record { busy = λ h. absurd (not-suc-le-zero h); free = λ e. (refl, refl) };
+    }
 
 -- ---- the disk of a sound machine
 

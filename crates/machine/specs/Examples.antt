@@ -1,8 +1,9 @@
 -- The definitions computed on document 01's examples.
-use Prim.Native.Nat.{ℕ}
+use Prim.Native.Nat.{ℕ, _-_, _^_}
 use mathlib.Core.Path.{_≡_, refl}
+use mathlib.Core.Bool.{true, false}
 use mathlib.Core.List.{List, [], _∷_, _++_}
-use lib.ListN.{getD, drop, replicate}
+use lib.ListN.{getD, take, drop, replicate}
 use Rattle.text.specs.Bytes.{bytes}
 use Rattle.text.specs.Numerals.{digits, decimal, digitCount, digitCountUpTo}
 use Rattle.text.specs.Place.{put}
@@ -14,7 +15,7 @@ use Rattle.trace.specs.LogLines.{registerFields, lineT, lineH, lineLD}
 use Rattle.machine.specs.State.{Machine, freshMachine, withHandler, withPc, withAge, withRegs, ioAt, putIo}
 use Rattle.machine.specs.Interrupts.{isIn, irq2Raised, interrupted}
 use Rattle.machine.specs.Execution.{attempted, commanded, painted, outputted, executed, fetchedAndExecuted}
-use Rattle.machine.specs.Cycle.{timerStepped, diskStepped, counted, atFetch, stepped, cycle}
+use Rattle.machine.specs.Cycle.{timerStepped, diskStepped, counted, atFetch, stepped, cycle, isCommand, acceptsAtFetch, acceptsCommand, cycles}
 use Rattle.machine.specs.Log.{changeLines, ioLines, linesAtFetch, cycleLines}
 
 -- ---- the program of two lines
@@ -120,6 +121,31 @@ refused-logs = refl
 irq2-by-age : ioAt irq2status (cycle (0 ∷ []) (7 ∷ []) (withAge 7 start)) ≡ 1
 unfolding start stepped counted diskStepped timerStepped fetchedAndExecuted executed outputted commanded attempted painted atFetch interrupted irq2Raised isIn operationOf ioBits timed freed put
 irq2-by-age = refl
+
+-- The lines and an accepted command are those of the machine after steps 1 and 2: irq2 asks in cycle 0, and its handler stands at 0x20.
+asked : Machine
+asked = putIo irq2enable 1 (putIo irqhandler 0x20 start)
+
+line-of-handler : take 5 (cycleLines [] (0 ∷ []) asked) ≡ bytes "T 020"
+unfolding asked start linesAtFetch lineT registerFields ioLines atFetch interrupted irq2Raised isIn operationOf digits
+line-of-handler = refl
+
+accepted-in-handler : acceptsCommand (replicate 0x20 0 ++ (0x14010200E001 ∷ [])) (0 ∷ []) asked ≡ true
+unfolding asked start acceptsAtFetch isCommand atFetch interrupted irq2Raised isIn operationOf
+accepted-in-handler = refl
+
+not-accepted : acceptsCommand (0x14010200E001 ∷ []) [] (reader 3969) ≡ false
+unfolding reader acceptsAtFetch isCommand atFetch interrupted irq2Raised isIn operationOf
+not-accepted = refl
+
+-- "it has stopped when its status is not 0, is at the cycle limit when its age is 2^40-1, and makes no cycle after either."
+stays-stopped : cycles 3 program [] start .core .age ≡ 2
+unfolding program start cycles stepped counted diskStepped timerStepped fetchedAndExecuted executed outputted commanded attempted painted atFetch interrupted irq2Raised isIn operationOf ioBits timed freed put
+stays-stopped = refl
+
+stays-at-limit : cycles 1 program [] (withAge (2 ^ 40 - 1) start) .core .age ≡ 2 ^ 40 - 1
+unfolding program start cycles stepped counted diskStepped timerStepped fetchedAndExecuted executed outputted commanded attempted painted atFetch interrupted irq2Raised isIn operationOf ioBits timed freed put
+stays-at-limit = refl
 
 -- ---- "Mistakes to exclude"
 

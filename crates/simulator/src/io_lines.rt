@@ -52,7 +52,7 @@ fn put_read_line(
 {
     let a = plus(o.rs, o.rt);
     if is_listed(a) {
-        return put_line_h(log, at, c, b"READ", a, io[a as usize], pairs);
+        return put_line_h(log, at, c, false, a, io[a as usize], pairs);
     }
     at
 }
@@ -71,7 +71,7 @@ fn put_write_lines(
 {
     let a = plus(o.rs, o.rt);
     if is_listed(a) {
-        let change_at = put_line_h(log, at, c, b"WRITE", a, o.rm, pairs);
+        let change_at = put_line_h(log, at, c, true, a, o.rm, pairs);
         return put_change_line(log, change_at, c, a, o.rm, io, pairs);
     }
     at

@@ -58,7 +58,7 @@ fn read_length(c: u64, o: Operands) -> usize
 {
     let a = plus(o.rs, o.rt);
     if is_listed(a) {
-        return line_h_length(c, 4, a);
+        return line_h_length(c, false, a);
     }
     0
 }
@@ -70,7 +70,7 @@ fn write_length(c: u64, o: Operands, io: &[u32; 23]) -> usize
 {
     let a = plus(o.rs, o.rt);
     if is_listed(a) {
-        return line_h_length(c, 5, a) + change_length(c, a, o.rm, io);
+        return line_h_length(c, true, a) + change_length(c, a, o.rm, io);
     }
     0
 }

@@ -1,5 +1,6 @@
 -- The lines of the log. "Lines end in LF, hex in capitals, one space between fields .. The letter stands first."
 use Prim.Native.Nat.{ℕ}
+use mathlib.Core.Bool.{Bool, cond}
 use mathlib.Core.List.{List, [], _∷_, _++_}
 use Rattle.text.specs.Bytes.{bytes}
 use Rattle.text.specs.Numerals.{digits, decimal}
@@ -22,6 +23,10 @@ lineT pc word rs = bytes "T" ++ field (digits 16 3 pc) ++ field (digits 16 12 wo
 -- "H: cycle c in decimal, READ or WRITE, register name, value read or R[rm] (8)."
 unfoldable pub lineH : ℕ → List ℕ → ℕ → ℕ → List ℕ
 lineH c way n x = bytes "H" ++ field (decimal c) ++ field way ++ field (ioName n) ++ field (digits 16 8 x) ++ (LF ∷ [])
+
+-- "READ or WRITE"
+abbrev pub wayOf : Bool → List ℕ
+wayOf writes = cond writes (bytes "WRITE") (bytes "READ")
 
 -- "L and D: cycle, new value (8)."
 unfoldable pub lineLD : List ℕ → ℕ → ℕ → List ℕ

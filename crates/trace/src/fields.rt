@@ -12,7 +12,7 @@ ghost use Rattle.text.specs.Lines.{LF as lf};
 ghost use Rattle.text.specs.Numerals.{digits, digitCount, decimal, HexPairs};
 ghost use Rattle.text.specs.Place.{put};
 ghost use Rattle.isa.specs.Registers.{ioName};
-ghost use Rattle.trace.specs.LogLines.{field};
+ghost use Rattle.trace.specs.LogLines.{field, wayOf};
 
 // A word in hexadecimal; returns the place after it.
 pub fn put_word(out: &mut [u8], at: usize, x: u32, pairs: &[u16; 256]) -> usize
@@ -44,13 +44,15 @@ pub fn put_cycle(out: &mut [u8], at: usize, letter: u8, c: u64) -> usize
     put_decimal(out, at + 2, c)
 }
 
-// Bytes as they are; returns the place after them.
-pub fn put_part(out: &mut [u8], at: usize, bytes: &[u8]) -> usize
-    requires { ⌜ at + 1 + length (now bytes) ≤ length (now out) ⌝ }
-    ensures { λ r. ⌜ (now (out .exit) ≡ put (now (out .entry)) at (field (now (bytes .entry)))) × (r ≡ at + 1 + length (now (bytes .entry))) ⌝ }
+// READ or WRITE; returns the place after it.
+pub fn put_way(out: &mut [u8], at: usize, writes: bool) -> usize
+    requires { ⌜ at + 1 + length (wayOf writes) ≤ length (now out) ⌝ }
+    ensures { λ r. ⌜ (now (out .exit) ≡ put (now (out .entry)) at (field (wayOf writes))) × (r ≡ at + 1 + length (wayOf writes)) ⌝ }
 {
-    out[at] = b' ';
-    put_bytes(out, at + 1, bytes)
+    if writes {
+        return put_bytes(out, at, b" WRITE");
+    }
+    put_bytes(out, at, b" READ")
 }
 
 // The name of an I/O register; returns the place after it.

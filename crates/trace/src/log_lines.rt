@@ -2,20 +2,20 @@
 use crate::fields::put_cycle;
 use crate::fields::put_last_word;
 use crate::fields::put_name;
-use crate::fields::put_part;
+use crate::fields::put_way;
 use crate::fields::put_word;
 use isa::io::io_name_length;
 use text::decimal::digit_count;
 use text::digits::put_hex;
 use text::place::put_bytes;
 ghost use mathlib.Core.Path.{_≡_};
-ghost use mathlib.Core.List.{List, [], _∷_, _++_};
+ghost use mathlib.Core.List.{[], _∷_, _++_};
 ghost use Prim.Native.Nat.{ℕ, _+_, _≤_};
 ghost use lib.ListN.{length};
 ghost use Rattle.text.specs.Bytes.{bytes};
 ghost use Rattle.text.specs.Numerals.{digits, HexPairs};
 ghost use Rattle.text.specs.Place.{put};
-ghost use Rattle.trace.specs.LogLines.{field, frontT, lineH, lineLD};
+ghost use Rattle.trace.specs.LogLines.{field, frontT, lineH, lineLD, wayOf};
 
 // Lays the T line of an instruction at a place and returns the place after it: its front and `kept`, the text of R3 to R15.
 pub fn put_line_t(
@@ -58,21 +58,21 @@ fn put_low_registers(out: &mut [u8], at: usize, imm1: u32, imm2: u32, pairs: &[u
     put_word(out, at + 18, imm2, pairs);
 }
 
-// Lays an H line at a place and returns the place after it. `way` is READ or WRITE.
+// Lays an H line at a place and returns the place after it; `writes`: WRITE, else READ.
 pub fn put_line_h(
     out: &mut [u8],
     at: usize,
     c: u64,
-    way: &[u8],
+    writes: bool,
     n: u32,
     x: u32,
     pairs: &[u16; 256],
 ) -> usize
-    requires { ⌜ (at + length (lineH c (now way) n x) ≤ length (now out)) × HexPairs (now pairs) ⌝ }
-    ensures { λ r. ⌜ (now (out .exit) ≡ put (now (out .entry)) at (lineH c (now (way .entry)) n x)) × (r ≡ at + length (lineH c (now (way .entry)) n x)) ⌝ }
+    requires { ⌜ (at + length (lineH c (wayOf writes) n x) ≤ length (now out)) × HexPairs (now pairs) ⌝ }
+    ensures { λ r. ⌜ (now (out .exit) ≡ put (now (out .entry)) at (lineH c (wayOf writes) n x)) × (r ≡ at + length (lineH c (wayOf writes) n x)) ⌝ }
 {
     let way_at = put_cycle(out, at, b'H', c);
-    let name_at = put_part(out, way_at, way);
+    let name_at = put_way(out, way_at, writes);
     let value_at = put_name(out, name_at, n);
     put_last_word(out, value_at, x, pairs)
 }
@@ -94,11 +94,17 @@ pub fn put_line_ld(
 }
 
 // How many bytes an H line has, whatever its value.
-pub fn line_h_length(c: u64, way: usize, n: u32) -> usize
-    requires { ⌜ way ≤ 5 ⌝ }
-    ensures { λ r. ⌜ ((s : List ℕ) (x : ℕ) → length s ≡ way → r ≡ length (lineH c s n x)) ⌝ }
+pub fn line_h_length(c: u64, writes: bool, n: u32) -> usize
+    ensures { λ r. ⌜ ((x : ℕ) → r ≡ length (lineH c (wayOf writes) n x)) ⌝ }
 {
-    digit_count(c) + way + io_name_length(n) + 14
+    digit_count(c) + way_length(writes) + io_name_length(n) + 14
+}
+
+// How many bytes READ or WRITE has.
+fn way_length(writes: bool) -> usize
+    ensures { λ r. ⌜ (r ≡ length (wayOf writes)) × (r ≤ 5) ⌝ }
+{
+    if writes { 5 } else { 4 }
 }
 
 // How many bytes an L or D line has, whatever its value.

@@ -14,9 +14,6 @@ plus-requires c κs = search needs
 is-listed-requires : tie.Need-is-listed-requires
 is-listed-requires c κs = search needs
 
-slice-aggregate-put-line-h : tie.Need-slice-aggregate-put-line-h
-slice-aggregate-put-line-h c = search needs
-
 cast-put-line-h : tie.Need-cast-put-line-h
 cast-put-line-h c = search needs
 
@@ -24,18 +21,18 @@ mul-put-line-h : tie.Need-mul-put-line-h
 mul-put-line-h c = search needs
 
 element-copy-out-put-line-h : tie.Need-element-copy-out-put-line-h
-element-copy-out-put-line-h c = listed-lt _ (sym (c .before .before .before .is-listed .ensures) ∙ c .before .before .if1 .taken)
+element-copy-out-put-line-h c = listed-lt _ (sym (c .before .before .is-listed .ensures) ∙ c .before .if1 .taken)
 
 put-line-h-requires : tie.Need-put-line-h-requires
 unfolding ioLines
-put-line-h-requires c κs = rw (← c .before .before .before .before .before .plus .ensures, ← c .before .before .before .before .is-listed .ensures, c .before .before .before .if1 .taken) at (c .before .before .before .before .before .before .before .pre)
+put-line-h-requires c κs = rw (← c .before .before .before .before .plus .ensures, ← c .before .before .before .is-listed .ensures, c .before .before .if1 .taken) at (c .before .before .before .before .before .before .pre)
 
 same-length : tie.Need-same-length
 same-length c = search needs
 
 returns : tie.Need-returns
 unfolding ioLines
-returns c = rw (← c .before .before .before .before .before .before .before .before .plus .ensures, ← c .before .before .before .before .before .before .before .is-listed .ensures, c .before .before .before .before .before .before .if1 .taken) (c .before .before .put-line-h .ensures)
+returns c = rw (← c .before .before .before .before .before .before .before .plus .ensures, ← c .before .before .before .before .before .before .is-listed .ensures, c .before .before .before .before .before .if1 .taken) (c .before .before .put-line-h .ensures)
 
 returns-2 : tie.Need-returns-2
 unfolding ioLines
@@ -47,7 +44,6 @@ put-read-line-spec =
     (tie.spec
     plus-requires
     is-listed-requires
-    slice-aggregate-put-line-h
     cast-put-line-h
     mul-put-line-h
     element-copy-out-put-line-h

@@ -1,7 +1,6 @@
 -- `simulator::lengths::read_length` meets its contract.
 use mathlib.Core.Path.{refl}
 use borrow.Author.Needs.{needs}
-use Rattle.text.specs.Bytes.{bytes}
 use Rattle.machine.specs.Log.{ioLines}
 use Rattle.simulator.proofs.lengths.read_length.Statement.{statement}
 use Rattle.simulator.proofs.lengths.read_length.Tie as tie
@@ -17,7 +16,7 @@ line-h-length-requires c κs = search needs
 
 returns : tie.Need-returns
 unfolding ioLines
-returns c = λ io. rw (← c .before .before .before .plus .ensures, ← c .before .before .is-listed .ensures, c .before .if1 .taken) (c .line-h-length .ensures (bytes "READ") _ refl)
+returns c = λ io. rw (← c .before .before .before .plus .ensures, ← c .before .before .is-listed .ensures, c .before .if1 .taken) (c .line-h-length .ensures _)
 
 returns-2 : tie.Need-returns-2
 unfolding ioLines

@@ -3,7 +3,6 @@ use mathlib.Core.Path.{refl}
 use native.Mathlib.Omega.{arith}
 use lib.ListN.{length-append}
 use borrow.Author.Needs.{needs}
-use Rattle.text.specs.Bytes.{bytes}
 use Rattle.machine.specs.Log.{ioLines}
 use Rattle.machine.proofs.LineLaws.{length-out}
 use Rattle.simulator.proofs.lengths.write_length.Statement.{statement}
@@ -24,14 +23,14 @@ change-length-requires c κs = search needs
 add-result : tie.Need-add-result
 add-result c =
     let a = c .before .before .before .before .before .args in
-    let h = c .before .line-h-length .ensures (bytes "WRITE") (a .o .rm) refl in
+    let h = c .before .line-h-length .ensures (a .o .rm) in
     let most = rw length-append at (length-out (a .c) (c .before .before .before .before .before .pre) (c .before .before .before .before .plus .result) (a .o .rm) (a .io .now)) in
     record { fits = omega (arith, h, c .change-length .ensures, most) }
 
 returns : tie.Need-returns
 unfolding ioLines
 returns c =
-    let h = c .before .line-h-length .ensures (bytes "WRITE") (c .before .before .before .before .before .args .o .rm) refl in
+    let h = c .before .line-h-length .ensures (c .before .before .before .before .before .args .o .rm) in
     rw (← c .before .before .before .before .plus .ensures, ← c .before .before .before .is-listed .ensures, c .before .before .if1 .taken, length-append) (omega (arith, h, c .change-length .ensures))
 
 returns-2 : tie.Need-returns-2

@@ -9,6 +9,9 @@ use Rattle.trace.proofs.log_lines.line_h_length.Tie as tie
 digit-count-requires : tie.Need-digit-count-requires
 digit-count-requires c κs = search needs
 
+way-length-requires : tie.Need-way-length-requires
+way-length-requires c κs = search needs
+
 add-result : tie.Need-add-result
 add-result c = search needs
 
@@ -16,19 +19,20 @@ io-name-length-requires : tie.Need-io-name-length-requires
 io-name-length-requires c κs = search needs
 
 add-result-2 : tie.Need-add-result-2
-add-result-2 c = omega (arith, name-length (c .before .before .args .n))
+add-result-2 c = omega (arith, name-length (c .before .before .before .args .n))
 
 add-result-3 : tie.Need-add-result-3
-add-result-3 c = omega (arith, name-length (c .before .before .args .n))
+add-result-3 c = omega (arith, name-length (c .before .before .before .args .n))
 
 returns : tie.Need-returns
-returns c = λ s x e. rw length-H (omega arith)
+returns c = λ x. rw length-H (omega arith)
 
 pub line-h-length-spec : {M : Type 1} → statement M
 line-h-length-spec =
     tie.close
     (tie.spec
     digit-count-requires
+    way-length-requires
     add-result
     io-name-length-requires
     add-result-2

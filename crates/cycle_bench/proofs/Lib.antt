@@ -1,0 +1,2 @@
+-- Laws of a loop of cycles.
+pub mod TurnLaws

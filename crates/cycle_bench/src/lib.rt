@@ -6,8 +6,8 @@ use trace::registers::lay_registers;
 ghost use mathlib.Core.Path.{_≡_};
 ghost use Prim.Native.Nat.{_≤_};
 ghost use lib.ListN.{length, drop};
-ghost use Rattle.machine.specs.State.{freshCore};
 ghost use Rattle.text.specs.Numerals.{HexPairs};
+ghost use Rattle.machine.specs.State.{freshCore};
 ghost use Rattle.machine.specs.Soundness.{Sound};
 ghost use Rattle.executor.specs.Lent.{Kept, Sized};
 

@@ -14,8 +14,8 @@ ghost use lib.Dec.{eqb};
 ghost use lib.ListN.{length, getD, take, drop};
 ghost use Rattle.text.specs.Place.{put};
 ghost use Rattle.isa.specs.Registers.{disksector};
-ghost use Rattle.executor.specs.Lent.{packed};
 ghost use Rattle.machine.specs.Execution.{attempted, commanded};
+ghost use Rattle.executor.specs.Lent.{packed};
 
 // The words of a sector.
 const SECTOR: usize = 128;

@@ -14,9 +14,8 @@ ghost use mathlib.Core.Path.{_≡_};
 ghost use Prim.Native.Nat.{_<_};
 ghost use Rattle.text.specs.Numerals.{HexPairs};
 ghost use Rattle.isa.specs.Operations.{operationOf};
-ghost use Rattle.executor.specs.Lent.{packed};
 ghost use Rattle.machine.specs.Execution.{executed};
-ghost use Rattle.executor.specs.Lent.{Kept, Ready};
+ghost use Rattle.executor.specs.Lent.{packed, Kept, Ready};
 
 // Executes an instruction on its operands.
 pub fn execute(

@@ -17,9 +17,8 @@ ghost use Prim.Native.Nat.{ℕ, _≤_, _<_};
 ghost use lib.ListN.{length};
 ghost use Rattle.text.specs.Numerals.{HexPairs};
 ghost use Rattle.isa.specs.Operations.{operationOf, jal, lw, sw, reti, input as inputOperation};
-ghost use Rattle.executor.specs.Lent.{packed};
 ghost use Rattle.machine.specs.Execution.{executed};
-ghost use Rattle.executor.specs.Lent.{Kept};
+ghost use Rattle.executor.specs.Lent.{packed, Kept};
 
 // The size of the data memory.
 const MEMORY: u32 = 4096;

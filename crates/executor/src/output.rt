@@ -17,10 +17,9 @@ ghost use lib.Dec.{eqb};
 ghost use lib.ListN.{length, getD, set};
 ghost use Rattle.isa.specs.Operations.{output as outputOperation};
 ghost use Rattle.isa.specs.Registers.{monitoraddr, monitordata};
-ghost use Rattle.executor.specs.Lent.{packed};
 ghost use Rattle.machine.specs.Execution.{outputted, executed};
 ghost use Rattle.machine.specs.Soundness.{FittingIo};
-ghost use Rattle.executor.specs.Lent.{Ready};
+ghost use Rattle.executor.specs.Lent.{packed, Ready};
 
 // out.
 pub fn output(

@@ -14,11 +14,10 @@ use Rattle.trace.proofs.LengthLaws.{length-T}
 use Rattle.machine.specs.declared.Core.{Core}
 use Rattle.machine.specs.declared.Operands.{Operands}
 use Rattle.machine.specs.State.{Machine}
-use Rattle.executor.specs.Lent.{packed}
+use Rattle.executor.specs.Lent.{packed, Kept}
 use Rattle.machine.specs.Execution.{fetched, registersOf, operandsOf, executed, fetchedAndExecuted}
 use Rattle.machine.specs.Cycle.{timerStepped, diskStepped, counted, atFetch, stepped}
 use Rattle.machine.specs.Log.{ioLines, linesAtFetch, traced, tracedOn}
-use Rattle.executor.specs.Lent.{Kept}
 
 -- ---- steps 3 and 4
 

@@ -23,14 +23,14 @@ ghost use Rattle.isa.specs.Word.{Fitting as FieldsFit};
 ghost use Rattle.isa.specs.Operations.{operationOf};
 ghost use Rattle.trace.specs.LogLines.{lineT};
 ghost use Rattle.machine.specs.declared.Core.{Core as CoreOf};
-ghost use Rattle.executor.specs.Lent.{packed};
 ghost use Rattle.machine.specs.Execution.{registersOf, operandsOf, fetchedAndExecuted};
 ghost use Rattle.machine.specs.Cycle.{timerStepped, diskStepped, counted, atFetch};
 ghost use Rattle.machine.specs.Log.{ioLines, linesAtFetch, traced, tracedOn};
 ghost use Rattle.machine.specs.Soundness.{Sound};
-ghost use Rattle.executor.specs.Lent.{Kept, Sized, Ready};
+ghost use Rattle.executor.specs.Lent.{packed, Kept, Sized, Ready};
 
-// Makes one cycle and lays its lines into the log at a place. `hit`: the age is in the irq2 list.
+// Makes one cycle and lays its lines into the log at a place. `hit`: the age is in the irq2 list. Whether the machine may make a cycle, and
+// whether its lines fit, a run asks first.
 pub fn cycle(
     c: Core,
     hit: bool,

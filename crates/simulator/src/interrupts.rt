@@ -15,9 +15,9 @@ ghost use Prim.Native.Nat.{ℕ};
 ghost use lib.Dec.{eqb};
 ghost use lib.ListN.{set};
 ghost use Rattle.isa.specs.Registers.{irq2status};
-ghost use Rattle.executor.specs.Lent.{packed};
 ghost use Rattle.machine.specs.Interrupts.{isAsked, interrupted};
 ghost use Rattle.machine.specs.Cycle.{atFetch};
+ghost use Rattle.executor.specs.Lent.{packed};
 
 // Steps 1 and 2. `hit`: the age is in the irq2 list.
 pub fn begin_cycle(c: Core, hit: bool, io: &mut [u32; 23]) -> Core

@@ -18,10 +18,10 @@ ghost use lib.Dec.{eqb};
 ghost use lib.ListN.{length, getD, drop};
 ghost use Rattle.isa.specs.Operations.{operationOf, input, output};
 ghost use Rattle.trace.specs.LogLines.{lineLD};
-ghost use Rattle.executor.specs.Lent.{packed};
 ghost use Rattle.machine.specs.Cycle.{atFetch};
 ghost use Rattle.machine.specs.Log.{changeLines, ioLines, linesAtFetch};
 ghost use Rattle.machine.specs.Soundness.{Sound};
+ghost use Rattle.executor.specs.Lent.{packed};
 
 // The bytes of a T line.
 const LINE_T: usize = 163;

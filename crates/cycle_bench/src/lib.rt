@@ -1,12 +1,12 @@
 // Cycles one after the other from the fresh record, with their lines: what bench/ measures.
 use machine::Core;
 use simulator::cycle::cycle;
-use text::digits::hex_pairs;
+use text::hex_words::hex_words;
 use trace::registers::lay_registers;
 ghost use mathlib.Core.Path.{_≡_};
 ghost use Prim.Native.Nat.{_≤_};
 ghost use lib.ListN.{length, drop};
-ghost use Rattle.text.specs.Numerals.{HexPairs};
+ghost use Rattle.text.specs.Numerals.{HexWords};
 ghost use Rattle.machine.specs.State.{freshCore};
 ghost use Rattle.machine.specs.Soundness.{Sound};
 ghost use Rattle.executor.specs.Lent.{Kept, Sized};
@@ -42,11 +42,11 @@ pub extern "C" fn simp_bench_cycles(
     if frame.len() != 65536 {
         return 0;
     }
-    let pairs = hex_pairs();
+    let table = hex_words();
     let mut regs = [0u32; 16];
     let mut io = [0u32; 23];
     let mut text = [0u8; 118];
-    lay_registers(&mut text, &regs, &pairs);
+    lay_registers(&mut text, &regs, &table);
     make_cycles(
         &mut regs,
         &mut text,
@@ -57,7 +57,7 @@ pub extern "C" fn simp_bench_cycles(
         frame,
         n,
         log,
-        &pairs,
+        &table,
     )
 }
 
@@ -72,10 +72,10 @@ fn make_cycles(
     frame: &mut [u8],
     n: u64,
     log: &mut [u8],
-    pairs: &[u16; 256],
+    table: &[u64; 1024],
 ) -> usize
     requires { ⌜ Sound freshCore (drop 3 (now regs)) (now io) ⌝ }
-    requires { ⌜ (length (now image) ≡ 4096) × (Kept (now regs) (now text) × (HexPairs (now pairs) × Sized (now memory) (now disk) (now frame))) ⌝ }
+    requires { ⌜ (length (now image) ≡ 4096) × (Kept (now regs) (now text) × (HexWords (now table) × Sized (now memory) (now disk) (now frame))) ⌝ }
     ensures { λ r. ⌜ r ≤ length (now (log .entry)) ⌝ }
 {
     let mut c = Core {
@@ -109,7 +109,7 @@ fn make_cycles(
             frame,
             log,
             at,
-            pairs,
+            table,
         );
         c = s.core;
         at = s.at;

@@ -12,7 +12,7 @@ use machine::Core;
 use machine::Operands;
 ghost use mathlib.Core.Path.{_≡_};
 ghost use Prim.Native.Nat.{_<_};
-ghost use Rattle.text.specs.Numerals.{HexPairs};
+ghost use Rattle.text.specs.Numerals.{HexWords};
 ghost use Rattle.isa.specs.Operations.{operationOf};
 ghost use Rattle.machine.specs.Execution.{executed};
 ghost use Rattle.executor.specs.Lent.{packed, Kept, Ready};
@@ -28,19 +28,19 @@ pub fn execute(
     memory: &mut [u32],
     disk: &mut [u32],
     frame: &mut [u8],
-    pairs: &[u16; 256],
+    table: &[u64; 1024],
 ) -> Core
-    requires { ⌜ (o .target < 16) × (Kept (now regs) (now text) × (HexPairs (now pairs) × Ready (now io) (now memory) (now disk) (now frame))) ⌝ }
+    requires { ⌜ (o .target < 16) × (Kept (now regs) (now text) × (HexWords (now table) × Ready (now io) (now memory) (now disk) (now frame))) ⌝ }
     ensures { λ r. ⌜ (packed r (now (regs .exit)) (now (io .exit)) (now (memory .exit)) (now (disk .exit)) (now (frame .exit)) ≡ executed (operationOf op) o (packed c (now (regs .entry)) (now (io .entry)) (now (memory .entry)) (now (disk .entry)) (now (frame .entry)))) × Kept (now (regs .exit)) (now (text .exit)) ⌝ }
 {
     match op {
-        0..=8 => calculation(op, c, o, regs, text, pairs),
+        0..=8 => calculation(op, c, o, regs, text, table),
         9..=14 => branch(op, c, o),
-        15 => link(c, o, regs, text, pairs),
-        16 => load(c, o, regs, text, memory, pairs),
+        15 => link(c, o, regs, text, table),
+        16 => load(c, o, regs, text, memory, table),
         17 => store(c, o, memory),
         18 => leave_handler(c, o, io),
-        19 => input(c, o, regs, text, io, pairs),
+        19 => input(c, o, regs, text, io, table),
         20 => output(c, o, io, memory, disk, frame),
         21 => end(c, 1),
         _ => end(c, 2),

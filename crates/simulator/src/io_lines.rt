@@ -12,7 +12,7 @@ ghost use mathlib.Core.List.{[], _∷_};
 ghost use Prim.Native.Nat.{_+_, _≤_};
 ghost use lib.Dec.{eqb};
 ghost use lib.ListN.{length};
-ghost use Rattle.text.specs.Numerals.{HexPairs};
+ghost use Rattle.text.specs.Numerals.{HexWords};
 ghost use Rattle.text.specs.Place.{put};
 ghost use Rattle.isa.specs.Operations.{operationOf, input, output};
 ghost use Rattle.trace.specs.LogLines.{lineLD};
@@ -26,14 +26,14 @@ pub fn put_io_lines(
     op: u32,
     o: Operands,
     io: &[u32; 23],
-    pairs: &[u16; 256],
+    table: &[u64; 1024],
 ) -> usize
-    requires { ⌜ (at + length (ioLines c (operationOf op) o (now io)) ≤ length (now log)) × HexPairs (now pairs) ⌝ }
+    requires { ⌜ (at + length (ioLines c (operationOf op) o (now io)) ≤ length (now log)) × HexWords (now table) ⌝ }
     ensures { λ r. ⌜ (now (log .exit) ≡ put (now (log .entry)) at (ioLines c (operationOf op) o (now (io .entry)))) × (r ≡ at + length (ioLines c (operationOf op) o (now (io .entry)))) ⌝ }
 {
     match op {
-        19 => put_read_line(log, at, c, o, io, pairs),
-        20 => put_write_lines(log, at, c, o, io, pairs),
+        19 => put_read_line(log, at, c, o, io, table),
+        20 => put_write_lines(log, at, c, o, io, table),
         _ => at,
     }
 }
@@ -45,14 +45,14 @@ fn put_read_line(
     c: u64,
     o: Operands,
     io: &[u32; 23],
-    pairs: &[u16; 256],
+    table: &[u64; 1024],
 ) -> usize
-    requires { ⌜ (at + length (ioLines c input o (now io)) ≤ length (now log)) × HexPairs (now pairs) ⌝ }
+    requires { ⌜ (at + length (ioLines c input o (now io)) ≤ length (now log)) × HexWords (now table) ⌝ }
     ensures { λ r. ⌜ (now (log .exit) ≡ put (now (log .entry)) at (ioLines c input o (now (io .entry)))) × (r ≡ at + length (ioLines c input o (now (io .entry)))) ⌝ }
 {
     let a = plus(o.rs, o.rt);
     if is_listed(a) {
-        return put_line_h(log, at, c, false, a, io[a as usize], pairs);
+        return put_line_h(log, at, c, false, a, io[a as usize], table);
     }
     at
 }
@@ -64,15 +64,15 @@ fn put_write_lines(
     c: u64,
     o: Operands,
     io: &[u32; 23],
-    pairs: &[u16; 256],
+    table: &[u64; 1024],
 ) -> usize
-    requires { ⌜ (at + length (ioLines c output o (now io)) ≤ length (now log)) × HexPairs (now pairs) ⌝ }
+    requires { ⌜ (at + length (ioLines c output o (now io)) ≤ length (now log)) × HexWords (now table) ⌝ }
     ensures { λ r. ⌜ (now (log .exit) ≡ put (now (log .entry)) at (ioLines c output o (now (io .entry)))) × (r ≡ at + length (ioLines c output o (now (io .entry)))) ⌝ }
 {
     let a = plus(o.rs, o.rt);
     if is_listed(a) {
-        let change_at = put_line_h(log, at, c, true, a, o.rm, pairs);
-        return put_change_line(log, change_at, c, a, o.rm, io, pairs);
+        let change_at = put_line_h(log, at, c, true, a, o.rm, table);
+        return put_change_line(log, change_at, c, a, o.rm, io, table);
     }
     at
 }
@@ -85,14 +85,14 @@ fn put_change_line(
     n: u32,
     x: u32,
     io: &[u32; 23],
-    pairs: &[u16; 256],
+    table: &[u64; 1024],
 ) -> usize
-    requires { ⌜ (at + length (changeLines c n x (now io)) ≤ length (now log)) × HexPairs (now pairs) ⌝ }
+    requires { ⌜ (at + length (changeLines c n x (now io)) ≤ length (now log)) × HexWords (now table) ⌝ }
     ensures { λ r. ⌜ (now (log .exit) ≡ put (now (log .entry)) at (changeLines c n x (now (io .entry)))) × (r ≡ at + length (changeLines c n x (now (io .entry)))) ⌝ }
 {
     match n {
-        9 => put_if_new(log, at, b'L', c, x, io[LEDS], pairs),
-        10 => put_if_new(log, at, b'D', c, x, io[DISPLAY7SEG], pairs),
+        9 => put_if_new(log, at, b'L', c, x, io[LEDS], table),
+        10 => put_if_new(log, at, b'D', c, x, io[DISPLAY7SEG], table),
         _ => at,
     }
 }
@@ -105,13 +105,13 @@ fn put_if_new(
     c: u64,
     x: u32,
     before: u32,
-    pairs: &[u16; 256],
+    table: &[u64; 1024],
 ) -> usize
-    requires { ⌜ (at + length (cond (not (eqb x before)) (lineLD (letter ∷ []) c x) []) ≤ length (now log)) × HexPairs (now pairs) ⌝ }
+    requires { ⌜ (at + length (cond (not (eqb x before)) (lineLD (letter ∷ []) c x) []) ≤ length (now log)) × HexWords (now table) ⌝ }
     ensures { λ r. ⌜ (now (log .exit) ≡ put (now (log .entry)) at (cond (not (eqb x before)) (lineLD (letter ∷ []) c x) [])) × (r ≡ at + length (cond (not (eqb x before)) (lineLD (letter ∷ []) c x) [])) ⌝ }
 {
     if x == before {
         return at;
     }
-    put_line_ld(log, at, letter, c, x, pairs)
+    put_line_ld(log, at, letter, c, x, table)
 }

@@ -2,7 +2,7 @@
 use Prim.Native.Nat.{ℕ, zero, suc, _-_, _/_, _^_, _≤_, _<_, zero-le}
 use mathlib.Core.Path.{_≡_, refl, _∙_, ap}
 use mathlib.Core.Bool.{Bool, true, false, cond}
-use native.Mathlib.Nat.{le-refl, le-trans, div-lt-self, zero-div, zero-lt-suc, le-of-lt, not-le-of-lt, pow-le-pow-right, le-of-suc-le-suc, pow-suc, div-lt-iff-lt-mul, le-div-iff-mul-le, mod-eq-of-lt, pow-zero, one-mul}
+use native.Mathlib.Nat.{le-refl, le-trans, le-antisymm, div-lt-self, zero-div, zero-lt-suc, le-of-lt, not-le-of-lt, pow-le-pow-right, le-of-suc-le-suc, pow-suc, div-lt-iff-lt-mul, le-div-iff-mul-le, mod-eq-of-lt, pow-zero, one-mul}
 use native.Mathlib.Omega.{arith}
 use lib.ListN.{length}
 use lib.Dec.{ltb, leb}
@@ -83,6 +83,16 @@ module _ (b : ℕ) (two : 1 < b) where
       go false e =
           let long = leb-false (digitCount b (suc v)) (suc k) e in
           absurd (not-le-of-lt h (le-trans (pow-le-pow-right (le-of-lt two) (omega arith)) (count-least (suc v) (zero-lt-suc v))))
+
+  -- Between two powers of the base that follow each other the count is the higher exponent.
+  pub count-is : (k v : ℕ) → b ^ k ≤ v → v < b ^ suc k → digitCount b v ≡ suc k
+  count-is k v low high = le-antisymm (count-le k v high) (go (leb (suc k) (digitCount b v)) refl)
+    where
+      go : (t : Bool) → leb (suc k) (digitCount b v) ≡ t → suc k ≤ digitCount b v
+      go true e = leb-true _ _ e
+      go false e =
+          let short = leb-false (suc k) (digitCount b v) e in
+          absurd (not-le-of-lt (count-holds v) (le-trans (pow-le-pow-right (le-of-lt two) (omega arith)) low))
 
 -- ---- decimals
 

@@ -5,5 +5,6 @@ pub mod PutLaws
 pub mod DigitLaws
 pub mod TableLaws
 pub mod WriteLaws
+pub mod HexWordLaws
 pub mod DecimalLaws
 pub mod LineLaws

@@ -5,7 +5,7 @@ use mathlib.Core.Bool.{true, false}
 use mathlib.Core.List.{List, [], _∷_, map}
 use Rattle.text.specs.Bytes.{bytes}
 use Rattle.text.specs.Questions.{Question, accepted, refused, firstNo, firstBad}
-use Rattle.text.specs.Numerals.{digitValue, digits, allDigits, value, digitCount, digitCountUpTo, decimal}
+use Rattle.text.specs.Numerals.{digitValue, digits, allDigits, value, digitCount, digitCountUpTo, decimal, lowBytes}
 use Rattle.text.specs.Lines.{lines, unlines}
 use Rattle.text.specs.Place.{put}
 
@@ -39,6 +39,11 @@ zero-decimal = refl
 thousand-decimal : decimal 1024 ≡ bytes "1024"
 unfolding decimal digits digitCount digitCountUpTo
 thousand-decimal = refl
+
+-- The lowest byte first.
+low-bytes : lowBytes 3 0x434241 ≡ bytes "ABC"
+unfolding lowBytes
+low-bytes = refl
 
 -- `A` LF and `A` are one line each; the empty text is none, an LF alone an empty one.
 line-with-lf : lines (bytes "A\n") ≡ (bytes "A") ∷ []

@@ -1,7 +1,7 @@
 // Decimals, with a number of digits or without leading zeros.
 use crate::digits::digit;
 ghost use mathlib.Core.Path.{_≡_};
-ghost use Prim.Native.Nat.{_+_, _≤_};
+ghost use Prim.Native.Nat.{_+_, _^_, _≤_};
 ghost use lib.ListN.{length};
 ghost use Rattle.text.specs.Numerals.{digitCount, digits, decimal};
 ghost use Rattle.text.specs.Place.{put};
@@ -10,13 +10,38 @@ ghost use Rattle.text.specs.Place.{put};
 pub fn digit_count(v: u64) -> usize
     ensures { λ r. ⌜ (r ≡ digitCount 10 v) × (r ≤ 20) ⌝ }
 {
-    let mut n = 1;
-    let mut rest = v;
-    while 10 <= rest {
-        rest = rest / 10;
-        n += 1;
+    match v {
+        0..=9 => 1,
+        10..=99 => 2,
+        100..=999 => 3,
+        1_000..=9_999 => 4,
+        10_000..=99_999 => 5,
+        100_000..=999_999 => 6,
+        1_000_000..=9_999_999 => 7,
+        10_000_000..=99_999_999 => 8,
+        100_000_000..=999_999_999 => 9,
+        1_000_000_000..=9_999_999_999 => 10,
+        _ => long_digit_count(v),
     }
-    n
+}
+
+// The same of a number with more than ten digits.
+fn long_digit_count(v: u64) -> usize
+    requires { ⌜ 10 ^ 10 ≤ v ⌝ }
+    ensures { λ r. ⌜ (r ≡ digitCount 10 v) × (r ≤ 20) ⌝ }
+{
+    match v {
+        0..=99_999_999_999 => 11,
+        100_000_000_000..=999_999_999_999 => 12,
+        1_000_000_000_000..=9_999_999_999_999 => 13,
+        10_000_000_000_000..=99_999_999_999_999 => 14,
+        100_000_000_000_000..=999_999_999_999_999 => 15,
+        1_000_000_000_000_000..=9_999_999_999_999_999 => 16,
+        10_000_000_000_000_000..=99_999_999_999_999_999 => 17,
+        100_000_000_000_000_000..=999_999_999_999_999_999 => 18,
+        1_000_000_000_000_000_000..=9_999_999_999_999_999_999 => 19,
+        _ => 20,
+    }
 }
 
 // Lays v in decimal at a place and returns the place after it.

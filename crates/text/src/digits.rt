@@ -59,7 +59,7 @@ pub fn hex_pairs() -> [u16; 256]
 }
 
 // The two hexadecimal digits of a byte, the first in the low byte.
-fn hex_pair(n: u8) -> u16
+pub fn hex_pair(n: u8) -> u16
     ensures { λ r. ⌜ r ≡ digitOf (n / 16) + digitOf (n % 16) * 256 ⌝ }
 {
     digit(n / 16) as u16 + digit(n % 16) as u16 * 256

@@ -1,6 +1,7 @@
 // Numerals and lines in slices of bytes, and the form of questions asked. Nothing here knows of a computer.
 pub mod decimal;
 pub mod digits;
+pub mod hex_words;
 pub mod lines;
 pub mod place;
 

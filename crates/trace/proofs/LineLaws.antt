@@ -1,15 +1,15 @@
 -- The log's lines, as the code lays their pieces. Assumes nothing.
 use Prim.Native.Char.{code}
-use Prim.Native.Nat.{ℕ, _+_}
+use Prim.Native.Nat.{ℕ, _+_, _/_, _%_, _^_}
 use mathlib.Core.Path.{_≡_, refl, sym, _∙_, ap}
 use mathlib.Core.List.{List, [], _∷_, _++_, append-assoc}
 use native.Mathlib.Omega.{arith}
 use lib.ListN.{length, set, length-append}
 use Rattle.text.specs.Bytes.{bytes}
-use Rattle.text.specs.Numerals.{digits, digitCount, decimal}
+use Rattle.text.specs.Numerals.{digit, digits, digitCount, decimal}
 use Rattle.text.specs.Lines.{LF}
 use Rattle.text.specs.Place.{put}
-use Rattle.text.proofs.DigitLaws.{length-digits}
+use Rattle.text.proofs.DigitLaws.{length-digits, digits-split, digits-low}
 use Rattle.text.proofs.DecimalLaws.{length-decimal}
 use Rattle.isa.specs.Registers.{ioName}
 use Rattle.trace.specs.LogLines.{field, registerFields, registersText, frontT, lineT, lineH, lineLD}
@@ -30,6 +30,28 @@ instruction-laid pc word at d e f p q =
     more d e f at (at + 5) (bytes "T" ++ field (digits 16 3 pc)) (field (digits 16 12 word)) (simp length-digits (omega arith))
     (after-store d e at (at + 1) (code "T") _ refl (after-store _ e (at + 1) (at + 2) (code " ") _ (omega arith) p))
     (after-store e f (at + 5) (at + 6) (code " ") _ (omega arith) q)
+
+-- PC, by its first digit and the byte below it.
+pub pc-laid : (pc x at : ℕ) (d f : List ℕ) → x ≡ digit (pc / 256 % 16) → f ≡ put (set d at x) (at + 1) (digits 16 2 (pc % 256)) → f ≡ put d at (digits 16 3 pc)
+unfolding digits
+pc-laid pc x at d f e p =
+    after-store d f at (at + 1) x _ refl p ∙ rw e (ap (put d at) (sym (digits-split 16 (omega arith) 1 2 pc)))
+
+-- The word, by its two high bytes and the 32 bits below them.
+code-digits : (w : ℕ) → digits 16 2 (w / 2 ^ 40 % 256) ++ digits 16 2 (w / 2 ^ 32 % 256) ++ digits 16 8 (w % 2 ^ 32) ≡ digits 16 12 w
+code-digits w =
+    let first : w / 2 ^ 40 ≡ w / 2 ^ 32 / 256 = omega arith in
+    rw (digits-low 16 (omega arith) 2 (w / 2 ^ 40), first)
+    (ap (λ (l : List ℕ). l ++ digits 16 8 (w % 2 ^ 32)) (sym (digits-split 16 (omega arith) 2 2 (w / 2 ^ 32)))
+    ∙ sym (digits-split 16 (omega arith) 4 8 w))
+
+pub code-laid : (w at : ℕ) (d e f g : List ℕ) → e ≡ put d at (digits 16 2 (w / 2 ^ 40 % 256)) → f ≡ put e (at + 2) (digits 16 2 (w / 2 ^ 32 % 256))
+    → g ≡ put f (at + 4) (digits 16 8 (w % 2 ^ 32)) → g ≡ put d at (digits 16 12 w)
+code-laid w at d e f g p q r =
+    more d f g at (at + 4) (digits 16 2 (w / 2 ^ 40 % 256) ++ digits 16 2 (w / 2 ^ 32 % 256)) _ (simp (length-append, length-digits) (omega arith))
+    (more d e f at (at + 2) (digits 16 2 (w / 2 ^ 40 % 256)) _ (simp length-digits) p q)
+    r
+    ∙ ap (put d at) (code-digits w)
 
 -- Three registers, each in its field.
 abbrev three : ℕ → ℕ → ℕ → List ℕ

@@ -1,7 +1,7 @@
 // Fields of a line: a space, and what stands after it.
 use names::put_io_name;
 use text::decimal::put_decimal;
-use text::digits::put_hex;
+use text::hex_words::put_hex_word;
 use text::lines::LF;
 use text::place::put_bytes;
 ghost use mathlib.Core.Path.{_≡_};
@@ -9,27 +9,27 @@ ghost use mathlib.Core.List.{[], _∷_, _++_};
 ghost use Prim.Native.Nat.{_+_, _≤_};
 ghost use lib.ListN.{length};
 ghost use Rattle.text.specs.Lines.{LF as lf};
-ghost use Rattle.text.specs.Numerals.{digits, digitCount, decimal, HexPairs};
+ghost use Rattle.text.specs.Numerals.{digits, digitCount, decimal, HexWords};
 ghost use Rattle.text.specs.Place.{put};
 ghost use Rattle.isa.specs.Registers.{ioName};
 ghost use Rattle.trace.specs.LogLines.{field, wayOf};
 
 // A word in hexadecimal; returns the place after it.
-pub fn put_word(out: &mut [u8], at: usize, x: u32, pairs: &[u16; 256]) -> usize
-    requires { ⌜ (at + 9 ≤ length (now out)) × HexPairs (now pairs) ⌝ }
+pub fn put_word(out: &mut [u8], at: usize, x: u32, table: &[u64; 1024]) -> usize
+    requires { ⌜ (at + 9 ≤ length (now out)) × HexWords (now table) ⌝ }
     ensures { λ r. ⌜ (now (out .exit) ≡ put (now (out .entry)) at (field (digits 16 8 x))) × (r ≡ at + 9) ⌝ }
 {
     out[at] = b' ';
-    put_hex(out, at + 1, 8, x as u64, pairs);
+    put_hex_word(out, at + 1, x, table);
     at + 9
 }
 
 // A word in hexadecimal that ends its line; returns the place after the LF.
-pub fn put_last_word(out: &mut [u8], at: usize, x: u32, pairs: &[u16; 256]) -> usize
-    requires { ⌜ (at + 10 ≤ length (now out)) × HexPairs (now pairs) ⌝ }
+pub fn put_last_word(out: &mut [u8], at: usize, x: u32, table: &[u64; 1024]) -> usize
+    requires { ⌜ (at + 10 ≤ length (now out)) × HexWords (now table) ⌝ }
     ensures { λ r. ⌜ (now (out .exit) ≡ put (now (out .entry)) at (field (digits 16 8 x) ++ (lf ∷ []))) × (r ≡ at + 10) ⌝ }
 {
-    let end = put_word(out, at, x, pairs);
+    let end = put_word(out, at, x, table);
     out[end] = LF;
     end + 1
 }

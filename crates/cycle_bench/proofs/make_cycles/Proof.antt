@@ -9,11 +9,11 @@ use Rattle.cycle_bench.proofs.make_cycles.Statement.{statement}
 use Rattle.cycle_bench.proofs.make_cycles.Tie as tie
 
 abbrev Inv-loop : tie.InvT-loop
-Inv-loop regs₀ text₀ io₀ image memory₀ disk₀ frame₀ n log₀ pairs c₀ at₀ i₀ regs text io memory disk frame log c at i =
+Inv-loop regs₀ text₀ io₀ image memory₀ disk₀ frame₀ n log₀ table c₀ at₀ i₀ regs text io memory disk frame log c at i =
     Turning c regs text io memory disk frame log at × ((length log ≡ length log₀) × (length memory ≡ length memory₀) × (length disk ≡ length disk₀) × (length frame ≡ length frame₀))
 
 abbrev μ-loop : tie.MeasureT-loop
-μ-loop regs₀ text₀ io₀ image memory₀ disk₀ frame₀ n log₀ pairs c₀ at₀ i₀ regs text io memory disk frame log c at i =
+μ-loop regs₀ text₀ io₀ image memory₀ disk₀ frame₀ n log₀ table c₀ at₀ i₀ regs text io memory disk frame log c at i =
     n - i
 
 loop-holds : tie.Need-loop-holds Inv-loop μ-loop

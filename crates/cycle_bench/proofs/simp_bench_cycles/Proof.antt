@@ -17,8 +17,8 @@ returns-3 c = search needs
 returns-4 : tie.Need-returns-4
 returns-4 c = search needs
 
-hex-pairs-requires : tie.Need-hex-pairs-requires
-hex-pairs-requires c κs = search needs
+hex-words-requires : tie.Need-hex-words-requires
+hex-words-requires c κs = search needs
 
 lay-registers-requires : tie.Need-lay-registers-requires
 lay-registers-requires c κs = search needs
@@ -30,7 +30,7 @@ make-cycles-requires c κs = (
     search needs,
     (
       record { sixteen = refl; zero = refl; is = c .before .before .before .before .before .before .before .before .lay-registers .ensures },
-      (c .before .before .before .before .before .before .before .before .before .before .before .before .hex-pairs .ensures, record { memory-size = search needs; disk-size = search needs; frame-size = search needs }),
+      (c .before .before .before .before .before .before .before .before .before .before .before .before .hex-words .ensures, record { memory-size = search needs; disk-size = search needs; frame-size = search needs }),
     ),
   ),
 )
@@ -58,7 +58,7 @@ simp-bench-cycles-spec =
     returns-2
     returns-3
     returns-4
-    hex-pairs-requires
+    hex-words-requires
     lay-registers-requires
     make-cycles-requires
     same-length

@@ -10,24 +10,24 @@ use Rattle.trace.proofs.fields.put_word.Tie as tie
 slice-write-out : tie.Need-slice-write-out
 slice-write-out c = search needs
 
-add-put-hex : tie.Need-add-put-hex
-add-put-hex c = search needs
+add-put-hex-word : tie.Need-add-put-hex-word
+add-put-hex-word c = search needs
 
-put-hex-requires : tie.Need-put-hex-requires
-put-hex-requires c κs = (simp length-set (omega arith), c .before .before .pre .1)
+put-hex-word-requires : tie.Need-put-hex-word-requires
+put-hex-word-requires c κs = (simp length-set (omega arith), c .before .before .pre .1)
 
 add-result : tie.Need-add-result
 add-result c = search needs
 
 same-length : tie.Need-same-length
-same-length c = c .before .before .put-hex .kept .0 ∙ simp length-set
+same-length c = c .before .before .put-hex-word .kept .0 ∙ simp length-set
 
 returns : tie.Need-returns
 returns c =
     let a = c .before .before .before .before .before .args in
-    (after-store (a .out .now) _ (a .at) _ _ _ refl (c .before .before .put-hex .ensures), refl)
+    (after-store (a .out .now) _ (a .at) _ _ _ refl (c .before .before .put-hex-word .ensures), refl)
 
 pub put-word-spec : {M : Type 1} → statement M
 put-word-spec =
     tie.close
-    (tie.spec slice-write-out add-put-hex put-hex-requires add-result same-length returns)
+    (tie.spec slice-write-out add-put-hex-word put-hex-word-requires add-result same-length returns)

@@ -16,33 +16,33 @@ add-out c = search needs
 slice-write-out-2 : tie.Need-slice-write-out-2
 slice-write-out-2 c = simp length-set (omega arith)
 
-add-put-hex : tie.Need-add-put-hex
-add-put-hex c = search needs
+add-put-pc : tie.Need-add-put-pc
+add-put-pc c = search needs
 
-put-hex-requires : tie.Need-put-hex-requires
-put-hex-requires c κs = (simp length-set (omega arith), c .before .before .pre .1)
+put-pc-requires : tie.Need-put-pc-requires
+put-pc-requires c κs = (simp length-set (omega arith), c .before .before .pre .1)
 
 add-out-2 : tie.Need-add-out-2
 add-out-2 c = search needs
 
 slice-write-out-3 : tie.Need-slice-write-out-3
-slice-write-out-3 c = let k = simp length-set at (c .before .before .put-hex .kept .0) in omega arith
+slice-write-out-3 c = let k = simp length-set at (c .before .before .put-pc .kept .0) in omega arith
 
-add-put-hex-2 : tie.Need-add-put-hex-2
-add-put-hex-2 c = search needs
+add-put-code : tie.Need-add-put-code
+add-put-code c = search needs
 
-put-hex-requires-2 : tie.Need-put-hex-requires-2
-put-hex-requires-2 c κs =
-    let k = simp length-set at (c .before .before .before .put-hex .kept .0) in
+put-code-requires : tie.Need-put-code-requires
+put-code-requires c κs =
+    let k = simp length-set at (c .before .before .before .put-pc .kept .0) in
     (simp length-set (omega arith), c .before .before .before .before .before .before .pre .1)
 
 same-length : tie.Need-same-length
-same-length c = (simp length-set at (c .before .before .put-hex2 .kept .0)) ∙ (simp length-set at (c .before .before .before .before .before .before .put-hex .kept .0))
+same-length c = (simp length-set at (c .before .before .put-code .kept .0)) ∙ (simp length-set at (c .before .before .before .before .before .before .put-pc .kept .0))
 
 returns : tie.Need-returns
 returns c =
     let a = c .before .before .before .before .before .before .before .before .before .args in
-    instruction-laid (a .pc) (a .word) (a .at) (a .out .now) _ _ (c .before .before .before .before .before .before .put-hex .ensures) (c .before .before .put-hex2 .ensures)
+    instruction-laid (a .pc) (a .word) (a .at) (a .out .now) _ _ (c .before .before .before .before .before .before .put-pc .ensures) (c .before .before .put-code .ensures)
 
 pub put-instruction-spec : {M : Type 1} → statement M
 put-instruction-spec =
@@ -51,11 +51,11 @@ put-instruction-spec =
     slice-write-out
     add-out
     slice-write-out-2
-    add-put-hex
-    put-hex-requires
+    add-put-pc
+    put-pc-requires
     add-out-2
     slice-write-out-3
-    add-put-hex-2
-    put-hex-requires-2
+    add-put-code
+    put-code-requires
     same-length
     returns)

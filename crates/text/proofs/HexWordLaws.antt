@@ -1,0 +1,106 @@
+-- Laws of hexadecimal digits that a number holds, the first in its low byte. Assumes nothing.
+use Prim.Native.Nat.{ℕ, zero, suc, _+_, _*_, _/_, _%_, _^_, _<_}
+use mathlib.Core.Path.{_≡_, refl, sym, _∙_, ap}
+use mathlib.Core.List.{List, _∷_, _++_}
+use native.Mathlib.Nat.{zero-add, suc-add, add-mul-mod-self-right, add-mul-div-right, mod-eq-of-lt, div-eq-of-lt, div-one, div-div-eq-div-mul, pow-zero, pow-suc, pow-succ', mod-lt, mul-one}
+use native.Mathlib.Omega.{arith}
+use lib.ListN.{length, getD}
+use Rattle.text.specs.Numerals.{digit, digits, lowBytes, HexWords}
+use Rattle.text.specs.Place.{put}
+use Rattle.text.proofs.PutLaws.{put-append}
+use Rattle.text.proofs.DigitLaws.{digit-lt, digits-split, digits-low}
+
+-- ---- the low bytes of a number
+
+-- As many as are asked for.
+length-low : (k v : ℕ) → length (lowBytes k v) ≡ k
+unfolding lowBytes
+length-low zero v = refl
+length-low (suc k) v = ap suc (length-low k (v / 256))
+
+-- The low bytes in two parts.
+low-split : (j k v : ℕ) → lowBytes (j + k) v ≡ lowBytes j v ++ lowBytes k (v / 256 ^ j)
+unfolding lowBytes
+low-split zero k v = rw (zero-add, pow-zero, div-one)
+low-split (suc j) k v = rw (suc-add, lowBytes, low-split j k (v / 256), div-div-eq-div-mul, pow-succ')
+
+-- Low bytes laid after those below them.
+pub put-low : (d e : List ℕ) (at j k v : ℕ) → e ≡ put d at (lowBytes j v) → put e (at + j) (lowBytes k (v / 256 ^ j)) ≡ put d at (lowBytes (j + k) v)
+put-low d e at j k v q = rw (q, low-split j k v, put-append, length-low)
+
+-- A byte below the others.
+low-front : (k c u : ℕ) → c < 256 → lowBytes (suc k) (c + u * 256) ≡ c ∷ lowBytes k u
+unfolding lowBytes
+low-front k c u h = rw (add-mul-mod-self-right c u 256, mod-eq-of-lt h, add-mul-div-right c u {z = 256} (omega arith), div-eq-of-lt h, zero-add)
+
+-- ---- pairs of digits
+
+-- The two digits of a byte in a number.
+abbrev pub pair : ℕ → ℕ
+pair n = digit (n / 16) + digit (n % 16) * 256
+
+-- It fills two bytes at most.
+pair-lt : (n : ℕ) → n < 256 → pair n < 65536
+pair-lt n h =
+    let first = digit-lt (n / 16) (omega arith) in
+    let second = digit-lt (n % 16) (omega arith) in
+    omega arith
+
+-- A pair below the other bytes.
+low-pair : (k n u : ℕ) → n < 256 → lowBytes (suc (suc k)) (pair n + u * 65536) ≡ digits 16 2 n ++ lowBytes k u
+unfolding digits
+low-pair k n u h =
+    let high : n / 16 < 16 = omega arith in
+    let first = digit-lt (n / 16) high in
+    let second = digit-lt (n % 16) (omega arith) in
+    let bytes : pair n + u * 65536 ≡ digit (n / 16) + (digit (n % 16) + u * 256) * 256 = omega arith in
+    rw (bytes, low-front (suc k) (digit (n / 16)) _ (omega arith), low-front k (digit (n % 16)) u (omega arith), mod-eq-of-lt high)
+
+-- A number holds the last k digits of x; with the pair before them below, it holds two more.
+pair-front : (k x u : ℕ) → lowBytes k u ≡ digits 16 k x → lowBytes (suc (suc k)) (pair (x / 16 ^ k % 256) + u * 65536) ≡ digits 16 (suc (suc k)) x
+pair-front k x u q =
+    let two : suc (suc k) ≡ 2 + k = omega arith in
+    low-pair k (x / 16 ^ k % 256) u (mod-lt (x / 16 ^ k) (omega arith))
+    ∙ rw (q, digits-low 16 (omega arith) 2 (x / 16 ^ k), ← digits-low 16 (omega arith) k x)
+    (sym (ap (λ (n : ℕ). digits 16 n x) two ∙ digits-split 16 (omega arith) 2 k x))
+
+-- The bytes of a pair are the digits.
+pub pair-bytes : (n : ℕ) → n < 256 → lowBytes 2 (pair n) ≡ digits 16 2 n
+unfolding lowBytes digits
+pair-bytes n h = let alone : pair n ≡ pair n + 0 * 65536 = omega arith in ap (λ (v : ℕ). lowBytes 2 v) alone ∙ low-pair 0 n 0 h
+
+-- The last k pairs of digits of x in a number, the first in its low byte.
+abbrev pub paired : ℕ → ℕ → ℕ
+paired zero x = 0
+paired (suc k) x = pair (x / 16 ^ (k * 2) % 256) + paired k x * 65536
+
+-- They fill two bytes each.
+pub paired-lt : (k x : ℕ) → paired k x < 65536 ^ k
+paired-lt zero x = omega arith
+paired-lt (suc k) x =
+    let first = pair-lt (x / 16 ^ (k * 2) % 256) (mod-lt (x / 16 ^ (k * 2)) (omega arith)) in
+    let rest = paired-lt k x in
+    rw pow-suc (omega arith)
+
+-- Its bytes are the digits.
+pub paired-bytes : (k x : ℕ) → lowBytes (k * 2) (paired k x) ≡ digits 16 (k * 2) x
+unfolding lowBytes digits
+paired-bytes zero x = refl
+paired-bytes (suc k) x = let two : suc k * 2 ≡ suc (suc (k * 2)) = omega arith in rw two (pair-front (k * 2) x (paired k x) (paired-bytes k x))
+
+-- ---- the table
+
+-- Its first entries are the pairs themselves.
+pub entry-pair : (t : List ℕ) (n : ℕ) → HexWords t → n < 256 → getD t n 0 ≡ pair n
+entry-pair t n w h = rw (zero-add, pow-zero, mul-one) at (w 0 n (omega arith) h)
+
+-- The sum of a word's four entries has all its digits.
+pub entries-sum : (t : List ℕ) (x : ℕ) → HexWords t → x < 2 ^ 32
+    → getD t (x / 16777216) 0 + getD t (256 + x / 65536 % 256) 0 + getD t (512 + x / 256 % 256) 0 + getD t (768 + x % 256) 0 ≡ paired 4 x
+entries-sum t x w h =
+    let a = entry-pair t (x / 16777216) w (omega arith) in
+    let b = w 1 (x / 65536 % 256) (omega arith) (omega arith) in
+    let c = w 2 (x / 256 % 256) (omega arith) (omega arith) in
+    let d = w 3 (x % 256) (omega arith) (omega arith) in
+    let first : x / 16777216 % 256 ≡ x / 16777216 = mod-eq-of-lt {m = 256} (omega arith) in
+    rw (first, div-one) (omega arith)

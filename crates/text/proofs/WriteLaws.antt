@@ -47,3 +47,8 @@ write-pair out at n p h q =
     let p0 : p % 256 ≡ digit (n / 16) = ap (λ (x : ℕ). x % 256) q ∙ add-mul-mod-self-right (digit (n / 16)) (digit (n % 16)) 256 ∙ mod-eq-of-lt (omega arith) in
     let p1 : p / 256 ≡ digit (n % 16) = ap (λ (x : ℕ). x / 256) q ∙ add-mul-div-right (digit (n / 16)) (digit (n % 16)) (omega arith) ∙ rw (div-eq-of-lt {n = digit (n / 16)} {m = 256} (omega arith), zero-add) in
     rw (p0, p1, mod-eq-of-lt {n = digit (n % 16)} {m = 256} (omega arith), mod-eq-of-lt high, add-one)
+
+-- Two digits stored one by one.
+pub write-two : (b : ℕ) (out : List ℕ) (at n x y : ℕ) → n / b < b → x ≡ digit (n / b) → y ≡ digit (n % b) → set (set out at x) (at + 1) y ≡ put out at (digits b 2 n)
+unfolding digits put
+write-two b out at n x y h p q = rw (p, q, mod-eq-of-lt h, add-one)

@@ -1,7 +1,7 @@
 // Decimals, with a number of digits or without leading zeros.
 use crate::digits::digit;
 ghost use mathlib.Core.Path.{_≡_};
-ghost use Prim.Native.Nat.{_+_, _^_, _≤_};
+ghost use Prim.Native.Nat.{_+_, _^_, _≤_, _<_};
 ghost use lib.ListN.{length};
 ghost use Rattle.text.specs.Numerals.{digitCount, digits, decimal};
 ghost use Rattle.text.specs.Place.{put};
@@ -50,8 +50,38 @@ pub fn put_decimal(out: &mut [u8], at: usize, v: u64) -> usize
     ensures { λ r. ⌜ (now (out .exit) ≡ put (now (out .entry)) at (decimal v)) × (r ≡ at + digitCount 10 v) ⌝ }
 {
     let n = digit_count(v);
+    if v < 0x1_0000_0000 {
+        put_word_digits(out, at, n, v as u32);
+        return at + n;
+    }
     put_decimal_digits(out, at, n, v);
     at + n
+}
+
+// Lays the k low decimal digits of a word at a place, two at a time.
+fn put_word_digits(out: &mut [u8], at: usize, k: usize, v: u32)
+    requires { ⌜ at + k ≤ length (now out) ⌝ }
+    ensures { λ _. ⌜ now (out .exit) ≡ put (now (out .entry)) at (digits 10 k v) ⌝ }
+{
+    let mut left = k;
+    let mut rest = v;
+    while 2 <= left {
+        left -= 2;
+        put_two_digits(out, at + left, rest % 100);
+        rest = rest / 100;
+    }
+    if left == 1 {
+        out[at] = digit((rest % 10) as u8);
+    }
+}
+
+// Lays the two decimal digits of a number below 100 at a place.
+fn put_two_digits(out: &mut [u8], at: usize, n: u32)
+    requires { ⌜ (at + 2 ≤ length (now out)) × (n < 100) ⌝ }
+    ensures { λ _. ⌜ now (out .exit) ≡ put (now (out .entry)) at (digits 10 2 n) ⌝ }
+{
+    out[at] = digit((n / 10) as u8);
+    out[at + 1] = digit((n % 10) as u8);
 }
 
 // Lays the k low decimal digits of v at a place.

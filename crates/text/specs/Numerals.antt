@@ -51,7 +51,7 @@ numeral b cs = cond (allDigits b cs) (Value (value b cs)) NoNumeral
 
 -- ---- no leading zeros
 
--- The count by at most f divisions; v are enough, since a number is larger than the count of its digits, but for 0.
+-- The count by at most f divisions; v are enough, since a number is at least the count of its digits, but for 0.
 unfoldable pub digitCountUpTo : ℕ → ℕ → ℕ → ℕ
 digitCountUpTo zero b v = 1
 digitCountUpTo (suc f) b v = let more = suc (digitCountUpTo f b (v / b)) in cond (ltb v b) 1 more

@@ -1,0 +1,71 @@
+-- Laws of a run of bits: what shifts and masks do to it. Assumes nothing.
+use Prim.Native.Nat.{ℕ, _+_, _-_, _*_, _/_, _%_, _^_, _≤_, _<_}
+use mathlib.Core.Path.{_≡_, refl, sym, ap, _∙_}
+use mathlib.Core.Bool.{Bool, true, false}
+use native.Mathlib.Nat.{mod-lt, mod-eq-of-lt, div-one, div-eq-of-lt, le-div-iff-mul-le, zero-add, one-mul}
+use native.Mathlib.Omega.{arith}
+use lib.Bits.{bitAnd, bitOr, and-mask, or-shifted}
+use lib.Dec.{ltb, eqb, lit<}
+use lib.Pow.{pow-pos, shl-exact, shr-shr, mod-pow-add, field, mod-mod-pow}
+use borrow.Author.Tests.{ltb-true, ltb-false, ne-eqb}
+use Rattle.bitpack.specs.Bits.{bits}
+
+-- A run of len bits is a number of len bits.
+pub bits-lt : (n lo len : ℕ) → bits n lo len < 2 ^ len
+unfolding bits
+bits-lt n lo len = mod-lt (n / 2 ^ lo) (pow-pos len)
+
+-- The lowest bits are a remainder.
+pub bits-lowest : (n len : ℕ) → bits n 0 len ≡ n % 2 ^ len
+unfolding bits
+bits-lowest n len = ap (λ (x : ℕ). x % 2 ^ len) (div-one n)
+
+module _ (n lo a b : ℕ) where
+  -- `high << b | low` joins two runs that touch.
+  pub bits-join : bits n (lo + b) a * 2 ^ b + bits n lo b ≡ bits n lo (a + b)
+  unfolding bits
+  bits-join = rw (← shr-shr n lo b) (sym (mod-pow-add (n / 2 ^ lo) a b))
+
+  -- `run >> b` leaves the run's high bits.
+  pub bits-high : bits n lo (a + b) / 2 ^ b ≡ bits n (lo + b) a
+  unfolding bits
+  bits-high = field (n / 2 ^ lo) a b ∙ ap (λ (x : ℕ). x % 2 ^ a) (shr-shr n lo b)
+
+  -- `run & ((1 << b) - 1)` leaves its low bits.
+  pub bits-low : bits n lo (a + b) % 2 ^ b ≡ bits n lo b
+  unfolding bits
+  bits-low = mod-mod-pow (n / 2 ^ lo) a b
+
+-- A run within a run is a run of the number.
+pub bits-in : (n lo above w s : ℕ) → bits (bits n lo (above + w + s)) s w ≡ bits n (lo + s) w
+unfolding bits
+bits-in n lo above w s = ap (λ (x : ℕ). x % 2 ^ w) (bits-high n lo (above + w) s) ∙ bits-low n (lo + s) above w
+
+-- What a number has above a run does not count for it.
+pub bits-rest : (n above w s : ℕ) → bits (n % 2 ^ (above + w + s)) s w ≡ bits n s w
+bits-rest n above w s =
+    ap (λ (x : ℕ). bits x s w) (sym (bits-lowest n (above + w + s))) ∙ bits-in n 0 above w s ∙ ap (λ (x : ℕ). bits n x w) (zero-add s)
+
+-- ---- shifts of 64 bits
+
+-- `1 << k` is a power.
+pub one-shifted : (k : ℕ) → k < 64 → (1 * 2 ^ k) % 2 ^ 64 ≡ 2 ^ k
+one-shifted k h = shl-exact 1 k 64 (lit< tt) (omega arith) ∙ one-mul (2 ^ k)
+
+-- `x & ((1 << k) - 1)` is a remainder.
+pub masked : (x k : ℕ) → k < 64 → bitAnd x ((1 * 2 ^ k) % 2 ^ 64 - 1) ≡ x % 2 ^ k
+masked x k h = ap (λ (p : ℕ). bitAnd x (p - 1)) (one-shifted k h) ∙ and-mask x k
+
+-- `(a << k) | v` is a sum.
+pub shifted-in : (a k v : ℕ) → a * 2 ^ k < 2 ^ 64 → v < 2 ^ k → bitOr ((a * 2 ^ k) % 2 ^ 64) v ≡ a * 2 ^ k + v
+shifted-in a k v room h = ap (λ (x : ℕ). bitOr x v) (mod-eq-of-lt room) ∙ or-shifted a k v h
+
+-- `v >> w` is 0 where v has no more than w bits.
+pub shift-test : (v w : ℕ) → eqb (v / 2 ^ w) 0 ≡ ltb v (2 ^ w)
+shift-test v w = go (ltb v (2 ^ w)) refl
+  where
+    go : (t : Bool) → ltb v (2 ^ w) ≡ t → eqb (v / 2 ^ w) 0 ≡ ltb v (2 ^ w)
+    go true e = rw (e, div-eq-of-lt (ltb-true v (2 ^ w) e))
+    go false e =
+        let one : 1 ≤ v / 2 ^ w = le-div-iff-mul-le (pow-pos w) .1 (rw (one-mul (2 ^ w)) (ltb-false v (2 ^ w) e)) in
+        rw e (ne-eqb (v / 2 ^ w) 0 (λ z. omega arith))

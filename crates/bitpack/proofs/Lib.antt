@@ -1,0 +1,5 @@
+-- Laws that belong to no one function.
+pub mod BitLaws
+pub mod PackLaws
+pub mod ByteLaws
+pub mod StreamLaws

@@ -1,0 +1,5 @@
+-- Values of given widths as bits of one number, and as bytes.
+pub mod Bits
+pub mod Packed
+pub mod Needs
+pub mod Examples

@@ -1,0 +1,25 @@
+-- What packing and unpacking ask of a list of widths.
+use Prim.Native.Nat.{ℕ, _*_}
+use mathlib.Core.Path.{_≡_}
+use mathlib.Core.Bool.{Bool, true, _&&_}
+use mathlib.Core.List.{List, [], _∷_}
+use lib.Dec.{leb}
+use lib.ListN.{length}
+use Rattle.bitpack.specs.Packed.{total, fit}
+
+-- Every width is at most `most` bits.
+abbrev pub narrow : ℕ → List ℕ → Bool
+narrow most [] = true
+narrow most (w ∷ ws) = leb w most && narrow most ws
+
+-- Values that fit their widths, which fill k bytes.
+pub record Packs (ws vs : List ℕ) (k : ℕ) : Type 0 where
+  pub fitting : fit ws vs ≡ true
+  pub whole : total ws ≡ 8 * k
+  pub small : narrow 40 ws ≡ true
+
+-- Widths that fill k bytes, and a place for the value of each.
+pub record Unpacks (ws : List ℕ) (k places : ℕ) : Type 0 where
+  pub room : places ≡ length ws
+  pub whole : total ws ≡ 8 * k
+  pub small : narrow 40 ws ≡ true

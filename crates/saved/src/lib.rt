@@ -1,0 +1,1 @@
+// The saved record. What its bytes are stands in specs/.

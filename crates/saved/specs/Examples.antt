@@ -1,17 +1,14 @@
 -- The definitions computed on document 01's example.
-use Prim.Native.Nat.{ℕ, _*_}
 use mathlib.Core.Path.{_≡_, refl}
 use mathlib.Core.Bool.{true}
-use mathlib.Core.List.{List, [], _∷_, _++_}
-use lib.ListN.{length, take, replicate}
-use Rattle.text.specs.Questions.{accepted, refused}
+use mathlib.Core.List.{[], _∷_, _++_}
+use lib.ListN.{take, replicate}
 use Rattle.bitpack.specs.Bits.{bits}
 use Rattle.bitpack.specs.Packed.{total, bytesOf}
 use Rattle.isa.specs.Registers.{ioBits}
 use Rattle.machine.specs.declared.Record.{Record}
 use Rattle.saved.specs.Layout.{widths, fieldsOf, savedBytes}
 use Rattle.saved.specs.Sound.{isSound}
-use Rattle.saved.specs.Calls.{saveTold}
 
 -- "728 bits", 91 bytes.
 all-bits : total widths ≡ 728

@@ -4,7 +4,6 @@ use Prim.Native.Nat.{ℕ}
 use mathlib.Core.List.{List, [], _∷_, _++_, map}
 use lib.ListN.{getD, take, drop, replicate}
 use Rattle.bitpack.specs.Packed.{packed, unpacked, bytesOf, numberOf}
-use Rattle.machine.specs.declared.Core.{Core}
 use Rattle.machine.specs.declared.Record.{Record}
 use Rattle.machine.specs.Soundness.{keptBits}
 

@@ -1,6 +1,6 @@
 -- Whether a record is sound, as a test; `Soundness.Sound` of machine says the same of its parts (`sound-yes`, `sound-no`).
 use Prim.Native.Nat.{ℕ}
-use mathlib.Core.Bool.{Bool, true, false, not, cond, _&&_, _||_}
+use mathlib.Core.Bool.{Bool, not, cond, _&&_, _||_}
 use lib.Dec.{eqb, ltb, leb}
 use lib.ListN.{length, getD}
 use Rattle.bitpack.specs.Packed.{fit}

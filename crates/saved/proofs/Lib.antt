@@ -1,0 +1,2 @@
+-- Laws of the saved record.
+pub mod TripLaws

@@ -1,0 +1,113 @@
+-- Return trips of the saved record. Assumes nothing.
+use Prim.Native.Nat.{ℕ, _*_}
+use mathlib.Core.Path.{_≡_, refl, sym, _∙_, ap}
+use mathlib.Core.Bool.{true, _&&_}
+use mathlib.Core.List.{List, [], _∷_, _++_}
+use native.Mathlib.Omega.{arith}
+use lib.Dec.{eqb, leb, ltb}
+use lib.ListN.{length, getD, take, drop, take-append-drop}
+use lib.Pow.{areBytes}
+use lib.Seq.{take-at, drop-at}
+use borrow.Author.Tests.{eqb-true, eq-eqb}
+use Rattle.text.specs.Questions.{accepted}
+use Rattle.text.proofs.Truth.{and-left, and-right}
+use Rattle.text.proofs.QuestionLaws.{first-yes}
+use Rattle.bitpack.specs.Packed.{fit, packed, bytesOf, numberOf}
+use Rattle.bitpack.specs.Needs.{Packs}
+use Rattle.bitpack.proofs.PackLaws.{length-unpacked}
+use Rattle.bitpack.proofs.ByteLaws.{length-bytes, recoded, repacked}
+use Rattle.isa.specs.Registers.{ioBits, diskcmd, diskstatus}
+use Rattle.machine.specs.declared.Record.{Record}
+use Rattle.saved.specs.Layout.{recordBytes, widths, fieldsOf, recordOf, savedBytes, savedFields}
+use Rattle.saved.specs.Sound.{isSound, same, isCommand}
+use Rattle.saved.specs.Calls.{loadTold, loadRecord}
+
+-- ---- a sound record
+
+-- It has 13 registers, and its fields fit.
+sound-counts : (r : Record) → isSound r ≡ true → (length (r .regs) ≡ 13) × (fit widths (fieldsOf r) ≡ true)
+unfolding isSound
+sound-counts r h =
+    let a = eqb (length (r .regs)) 13 in
+    let b = eqb (length (r .io)) 23 in
+    let c = fit widths (fieldsOf r) in
+    let d = leb (r .core .status) 5 in
+    let e = leb (r .core .left) 1024 in
+    let f = same (ltb 0 (r .core .left)) (eqb (getD (r .io) diskstatus 0) 1) in
+    let g = same (ltb 0 (r .core .left)) (isCommand (getD (r .io) diskcmd 0)) in
+    let front = and-left (a && b && c && d) e (and-left (a && b && c && d && e) f (and-left (a && b && c && d && e && f) g (and-left (a && b && c && d && e && f && g) _ h))) in
+    let three = and-left (a && b && c) d front in
+    (eqb-true _ _ (and-left a b (and-left (a && b) c three)), and-right (a && b) c three)
+
+-- They fill 91 bytes.
+packs : (r : Record) → isSound r ≡ true → Packs widths (fieldsOf r) recordBytes
+unfolding widths ioBits
+packs r h = record { fitting = sound-counts r h .1; whole = refl; small = refl }
+
+-- ---- fields and records
+
+-- The fields of a record with 13 registers are the record again.
+record-back : (r : Record) → length (r .regs) ≡ 13 → recordOf (fieldsOf r) ≡ r
+unfolding recordOf fieldsOf
+record-back r h i =
+    record {
+      core = r .core;
+      regs = take-at (r .regs) (r .io) 13 h i;
+      io = drop-at (r .regs) (r .io) 13 h i;
+    }
+
+-- The record of fields that begin with the edition has them again.
+fields-again : (f : List ℕ) → length f ≡ 42 → getD f 0 0 ≡ 1 → fieldsOf (recordOf f) ≡ f
+unfolding recordOf fieldsOf
+fields-again [] h e = absurd (omega arith)
+fields-again (a ∷ []) h e = absurd (omega arith)
+fields-again (a ∷ b ∷ []) h e = absurd (omega arith)
+fields-again (a ∷ b ∷ c ∷ []) h e = absurd (omega arith)
+fields-again (a ∷ b ∷ c ∷ d ∷ []) h e = absurd (omega arith)
+fields-again (a ∷ b ∷ c ∷ d ∷ l ∷ []) h e = absurd (omega arith)
+fields-again (a ∷ b ∷ c ∷ d ∷ l ∷ g ∷ vs) h e =
+    ap (λ (n : ℕ). n ∷ b ∷ c ∷ d ∷ l ∷ g ∷ (take 13 vs ++ drop 13 vs)) (sym e)
+    ∙ ap (λ (x : List ℕ). a ∷ b ∷ c ∷ d ∷ l ∷ g ∷ x) (take-append-drop 13 vs)
+
+-- ---- the trips
+
+module _ (r : Record) (sound : isSound r ≡ true) where
+  -- The bytes of a sound record have its fields, ..
+  fields-back : savedFields (savedBytes r) ≡ fieldsOf r
+  unfolding savedFields savedBytes
+  fields-back = recoded (packs r sound)
+
+  -- .. and are the record.
+  record-again : recordOf (savedFields (savedBytes r)) ≡ r
+  record-again = ap recordOf fields-back ∙ record-back r (sound-counts r sound .0)
+
+  bytes-count : length (savedBytes r) ≡ recordBytes
+  unfolding savedBytes
+  bytes-count = length-bytes recordBytes (packed widths (fieldsOf r))
+
+  edition-back : getD (savedFields (savedBytes r)) 0 0 ≡ 1
+  unfolding fieldsOf
+  edition-back = ap (λ (f : List ℕ). getD f 0 0) fields-back
+
+  -- A saved record is read, ..
+  pub load-accepts : loadTold (savedBytes r) ≡ accepted 0
+  load-accepts = rw (bytes-count, edition-back, record-again, sound) refl
+
+  -- .. and reads back as itself.
+  pub load-save : loadRecord (savedBytes r) ≡ r
+  load-save = rw (bytes-count, edition-back, record-again, sound) refl
+
+-- Two sound records with the same bytes are the same.
+pub same-bytes : (r s : Record) → isSound r ≡ true → isSound s ≡ true → savedBytes r ≡ savedBytes s → r ≡ s
+same-bytes r s p q e = sym (load-save r p) ∙ ap loadRecord e ∙ load-save s q
+
+-- Bytes that are read save as themselves.
+pub save-load : (b : List ℕ) → areBytes b ≡ true → loadTold b .number ≡ 0 → savedBytes (loadRecord b) ≡ b
+unfolding savedBytes savedFields widths ioBits
+save-load b bytes h =
+    let one = first-yes 1 0 (eqb (length b) recordBytes) _ (omega arith) h in
+    let two = first-yes 14 0 (eqb (getD (savedFields b) 0 0) 1) _ (omega arith) (one .1) in
+    let size = eqb-true (length b) recordBytes (one .0) in
+    let again = fields-again (savedFields b) (length-unpacked widths (numberOf b)) (eqb-true (getD (savedFields b) 0 0) 1 (two .0)) in
+    rw (eq-eqb (loadTold b .number) 0 h)
+    (ap (λ (f : List ℕ). bytesOf recordBytes (packed widths f)) again ∙ ap (λ (k : ℕ). bytesOf k (packed widths (savedFields b))) (sym size) ∙ repacked widths b (ap (λ (k : ℕ). 8 * k) (sym size)) bytes)

@@ -1,2 +1,3 @@
 -- Laws of the saved record.
+pub mod SoundTest
 pub mod TripLaws

@@ -1,48 +1,31 @@
 -- Return trips of the saved record. Assumes nothing.
 use Prim.Native.Nat.{ℕ, _*_}
 use mathlib.Core.Path.{_≡_, refl, sym, _∙_, ap}
-use mathlib.Core.Bool.{true, _&&_}
+use mathlib.Core.Bool.{true}
 use mathlib.Core.List.{List, [], _∷_, _++_}
 use native.Mathlib.Omega.{arith}
-use lib.Dec.{eqb, leb, ltb}
+use lib.Dec.{eqb}
 use lib.ListN.{length, getD, take, drop, take-append-drop}
 use lib.Pow.{areBytes}
 use lib.Seq.{take-at, drop-at}
 use borrow.Author.Tests.{eqb-true, eq-eqb}
 use Rattle.text.specs.Questions.{accepted}
-use Rattle.text.proofs.Truth.{and-left, and-right}
 use Rattle.text.proofs.QuestionLaws.{first-yes}
-use Rattle.bitpack.specs.Packed.{fit, packed, bytesOf, numberOf}
+use Rattle.bitpack.specs.Packed.{packed, bytesOf, numberOf}
 use Rattle.bitpack.specs.Needs.{Packs}
 use Rattle.bitpack.proofs.PackLaws.{length-unpacked}
 use Rattle.bitpack.proofs.ByteLaws.{length-bytes, recoded, repacked}
-use Rattle.isa.specs.Registers.{ioBits, diskcmd, diskstatus}
+use Rattle.isa.specs.Registers.{ioBits}
 use Rattle.machine.specs.declared.Record.{Record}
 use Rattle.saved.specs.Layout.{recordBytes, widths, fieldsOf, recordOf, savedBytes, savedFields}
-use Rattle.saved.specs.Sound.{isSound, same, isCommand}
+use Rattle.saved.specs.Sound.{isSound}
 use Rattle.saved.specs.Calls.{loadTold, loadRecord}
+use Rattle.saved.proofs.SoundTest.{sound-lengths, sound-fits}
 
--- ---- a sound record
-
--- It has 13 registers, and its fields fit.
-sound-counts : (r : Record) → isSound r ≡ true → (length (r .regs) ≡ 13) × (fit widths (fieldsOf r) ≡ true)
-unfolding isSound
-sound-counts r h =
-    let a = eqb (length (r .regs)) 13 in
-    let b = eqb (length (r .io)) 23 in
-    let c = fit widths (fieldsOf r) in
-    let d = leb (r .core .status) 5 in
-    let e = leb (r .core .left) 1024 in
-    let f = same (ltb 0 (r .core .left)) (eqb (getD (r .io) diskstatus 0) 1) in
-    let g = same (ltb 0 (r .core .left)) (isCommand (getD (r .io) diskcmd 0)) in
-    let front = and-left (a && b && c && d) e (and-left (a && b && c && d && e) f (and-left (a && b && c && d && e && f) g (and-left (a && b && c && d && e && f && g) _ h))) in
-    let three = and-left (a && b && c) d front in
-    (eqb-true _ _ (and-left a b (and-left (a && b) c three)), and-right (a && b) c three)
-
--- They fill 91 bytes.
+-- The fields of a sound record fill 91 bytes.
 packs : (r : Record) → isSound r ≡ true → Packs widths (fieldsOf r) recordBytes
 unfolding widths ioBits
-packs r h = record { fitting = sound-counts r h .1; whole = refl; small = refl }
+packs r h = record { fitting = sound-fits r h; whole = refl; small = refl }
 
 -- ---- fields and records
 
@@ -79,7 +62,7 @@ module _ (r : Record) (sound : isSound r ≡ true) where
 
   -- .. and are the record.
   record-again : recordOf (savedFields (savedBytes r)) ≡ r
-  record-again = ap recordOf fields-back ∙ record-back r (sound-counts r sound .0)
+  record-again = ap recordOf fields-back ∙ record-back r (sound-lengths r sound .0)
 
   bytes-count : length (savedBytes r) ≡ recordBytes
   unfolding savedBytes

@@ -1,4 +1,4 @@
--- Whether a record is sound, as a test; `Soundness.Sound` of machine says the same of its parts (`sound-yes`, `sound-no`).
+-- Whether a record is sound, as a test; `Soundness.Sound` of machine says the same of its parts (`sound-yes`, `sound-test`).
 use Prim.Native.Nat.{ℕ}
 use mathlib.Core.Bool.{Bool, not, cond, _&&_, _||_}
 use lib.Dec.{eqb, ltb, leb}

@@ -1,0 +1,252 @@
+-- The test of soundness says what machine's Sound says. Assumes nothing.
+use Prim.Native.Nat.{ℕ, zero, suc, _^_, _≤_, _<_}
+use mathlib.Core.Path.{_≡_, refl, sym, ap, _∙_}
+use mathlib.Core.Bool.{Bool, true, false, _&&_, _||_, false≢true, and-assoc}
+use mathlib.Core.List.{List, [], _∷_, _++_, map}
+use native.Mathlib.Nat.{lt-of-lt-of-le}
+use native.Mathlib.Omega.{arith}
+use lib.Dec.{eqb, ltb, leb}
+use lib.ListN.{length, getD, replicate, List·getD-eq-default}
+use lib.Pow.{pow-pos}
+use borrow.Author.Tests.{eqb-true, eqb-false, leb-true, ltb-true, ltb-false, lt-ltb, le-ltb, le-leb, eq-eqb, ne-eqb, not-true}
+use Rattle.text.proofs.Truth.{and-left, and-right, below}
+use Rattle.bitpack.specs.Packed.{fit}
+use Rattle.bitpack.proofs.PackLaws.{fit-at}
+use Rattle.isa.specs.Registers.{ioBits, diskcmd, diskstatus, monitorcmd}
+use Rattle.isa.proofs.IoLaws.{no-bits-above}
+use Rattle.machine.specs.declared.Core.{Core}
+use Rattle.machine.specs.declared.Record.{Record}
+use Rattle.machine.specs.Soundness.{keptBits, FittingIo, SoundCore, SoundDisk, Sound}
+use Rattle.saved.specs.Layout.{edition, ioNumbers, widths, fieldsOf}
+use Rattle.saved.specs.Sound.{same, isCommand, isSound}
+
+-- ---- tests
+
+-- Two tests that pass pass together.
+both : (a b : Bool) → a ≡ true → b ≡ true → (a && b) ≡ true
+both a b p q = rw (p, q)
+
+-- Tests that pass together pass each.
+each : (a b c d e f g h : Bool) → (a && b && c && d && e && f && g && h) ≡ true
+    → (a ≡ true) × (b ≡ true) × (c ≡ true) × (d ≡ true) × (e ≡ true) × (f ≡ true) × (g ≡ true) × (h ≡ true)
+each true true true true true true true h q = (refl, refl, refl, refl, refl, refl, refl, q)
+each true true true true true true false h q = absurd (false≢true q)
+each true true true true true false g h q = absurd (false≢true q)
+each true true true true false f g h q = absurd (false≢true q)
+each true true true false e f g h q = absurd (false≢true q)
+each true true false d e f g h q = absurd (false≢true q)
+each true false c d e f g h q = absurd (false≢true q)
+each false b c d e f g h q = absurd (false≢true q)
+
+-- ---- lists that fit; these two hold of any widths
+
+-- A list of two parts fits where each part does.
+pub fit-parts : (us ws xs ys : List ℕ) → length us ≡ length xs → fit (us ++ ws) (xs ++ ys) ≡ (fit us xs && fit ws ys)
+fit-parts [] ws [] ys e = refl
+fit-parts [] ws (x ∷ xs) ys e = absurd (omega arith)
+fit-parts (u ∷ us) ws [] ys e = absurd (omega arith)
+fit-parts (u ∷ us) ws (x ∷ xs) ys e =
+    ap (λ (t : Bool). ltb x (2 ^ u) && t) (fit-parts us ws xs ys (omega arith)) ∙ sym (and-assoc (ltb x (2 ^ u)) (fit us xs) (fit ws ys))
+
+-- Values that are as many as the widths, each below its power, fit.
+pub fit-all : (ws vs : List ℕ) → length ws ≡ length vs → ((i : ℕ) → getD vs i 0 < 2 ^ getD ws i 0) → fit ws vs ≡ true
+fit-all [] [] e h = refl
+fit-all [] (v ∷ vs) e h = absurd (omega arith)
+fit-all (w ∷ ws) [] e h = absurd (omega arith)
+fit-all (w ∷ ws) (v ∷ vs) e h = both _ _ (lt-ltb v (2 ^ w) (h 0)) (fit-all ws vs (omega arith) (λ i. h (suc i)))
+
+-- ---- the widths of the registers
+
+-- Equal widths: none is read as more.
+repeated-le : (k w n : ℕ) → 2 ^ getD (replicate k w) n 0 ≤ 2 ^ w
+repeated-le zero w n = pow-pos w
+repeated-le (suc k) w zero = omega arith
+repeated-le (suc k) w (suc n) = repeated-le k w n
+
+-- As many values as equal widths fit where each is below their power.
+fit-repeated : (k w : ℕ) (vs : List ℕ) → length vs ≡ k → ((i : ℕ) → getD vs i 0 < 2 ^ w) → fit (replicate k w) vs ≡ true
+fit-repeated zero w [] e h = refl
+fit-repeated zero w (v ∷ vs) e h = absurd (omega arith)
+fit-repeated (suc k) w [] e h = absurd (omega arith)
+fit-repeated (suc k) w (v ∷ vs) e h = both _ _ (lt-ltb v (2 ^ w) (h 0)) (fit-repeated k w vs (omega arith) (λ i. h (suc i)))
+
+-- The width of an I/O register's field is what a record keeps of it; past the 23 both are 0.
+kept-at : (n : ℕ) → getD (map keptBits ioNumbers) n 0 ≡ keptBits n
+unfolding ioBits
+kept-at n = go (ltb n 23) refl
+  where
+    go : (t : Bool) → ltb n 23 ≡ t → getD (map keptBits ioNumbers) n 0 ≡ keptBits n
+    go true e = eqb-true _ _ (below (λ k. eqb (getD (map keptBits ioNumbers) k 0) (keptBits k)) 23 refl n (ltb-true n 23 e))
+    go false e =
+        let past = ltb-false n 23 e in
+        rw (List·getD-eq-default (map keptBits ioNumbers) 0 past, ne-eqb n monitorcmd (λ q. omega arith), no-bits-above n past)
+
+-- ---- the three parts of the fields
+
+-- The edition and the scalars: their widths, their fields.
+abbrev scalarWidths : List ℕ
+scalarWidths = 8 ∷ 3 ∷ 1 ∷ 12 ∷ 40 ∷ 11 ∷ []
+
+abbrev scalarsOf : Core → List ℕ
+scalarsOf c = edition ∷ c .status ∷ c .handler ∷ c .pc ∷ c .age ∷ c .left ∷ []
+
+-- Sound scalars fit.
+scalars-fit : (c : Core) → SoundCore (2 ^ 40) c → fit scalarWidths (scalarsOf c) ≡ true
+scalars-fit c s =
+    rw (lt-ltb (c .status) 8 (omega arith), lt-ltb _ _ (s .handler), lt-ltb _ _ (s .pc), lt-ltb _ _ (s .age), lt-ltb (c .left) 2048 (omega arith))
+
+-- The fields fit where the scalars, the registers and the I/O registers do.
+fields-fit : (r : Record) → length (r .regs) ≡ 13
+    → fit widths (fieldsOf r) ≡ (fit scalarWidths (scalarsOf (r .core)) && (fit (replicate 13 32) (r .regs) && fit (map keptBits ioNumbers) (r .io)))
+unfolding widths fieldsOf
+fields-fit r thirteen =
+    fit-parts scalarWidths (replicate 13 32 ++ map keptBits ioNumbers) (scalarsOf (r .core)) (r .regs ++ r .io) refl
+    ∙ ap (λ (t : Bool). fit scalarWidths (scalarsOf (r .core)) && t) (fit-parts (replicate 13 32) (map keptBits ioNumbers) (r .regs) (r .io) (sym thirteen))
+
+-- ---- the disk
+
+-- The test of a command passes at 1 and 2 only.
+command-yes : (n : ℕ) → isCommand n ≡ true → (1 ≤ n) × (n ≤ 2)
+command-yes n e = go (eqb n 1) refl (eqb n 2) refl e
+  where
+    go : (t : Bool) → eqb n 1 ≡ t → (u : Bool) → eqb n 2 ≡ u → (t || u) ≡ true → (1 ≤ n) × (n ≤ 2)
+    go true p u q e = let one = eqb-true n 1 p in (omega arith, omega arith)
+    go false p true q e = let two = eqb-true n 2 q in (omega arith, omega arith)
+    go false p false q e = absurd (false≢true e)
+
+-- It passes there.
+command-test : (n : ℕ) → 1 ≤ n → n ≤ 2 → isCommand n ≡ true
+command-test n low high = go (eqb n 1) refl
+  where
+    go : (t : Bool) → eqb n 1 ≡ t → (t || eqb n 2) ≡ true
+    go true p = refl
+    go false p = let other = eqb-false n 1 p in eq-eqb n 2 (omega arith)
+
+-- One of two tests passes: the second, where the first fails.
+or-second : (a b : Bool) → a ≡ false → (a || b) ≡ true → b ≡ true
+or-second a b p e = rw p at e
+
+-- The disk's tests pass, of whether cycles are left, of diskstatus and of diskcmd.
+abbrev DiskPassed : Bool → ℕ → ℕ → Type 0
+DiskPassed busy status command =
+    (same busy (eqb status 1) ≡ true) × (same busy (isCommand command) ≡ true) × ((isCommand command || eqb command 0) ≡ true)
+
+module _ (left : ℕ) (io : List ℕ) where
+  -- A disk that passes is sound, where diskstatus is a bit.
+  disk-yes : getD io diskstatus 0 < 2 → DiskPassed (ltb 0 left) (getD io diskstatus 0) (getD io diskcmd 0) → SoundDisk left io
+  disk-yes bit p = record { busy = busy; free = free }
+    where
+      busy : 0 < left → (getD io diskstatus 0 ≡ 1) × (1 ≤ getD io diskcmd 0) × (getD io diskcmd 0 ≤ 2)
+      busy some =
+          let test = lt-ltb 0 left some in
+          let range = command-yes (getD io diskcmd 0) (rw test at (p .1)) in
+          (eqb-true _ _ (rw test at (p .0)), range .0, range .1)
+
+      free : left ≡ 0 → (getD io diskstatus 0 ≡ 0) × (getD io diskcmd 0 ≡ 0)
+      free none =
+          let test = le-ltb 0 left (omega arith) in
+          let other = eqb-false (getD io diskstatus 0) 1 (not-true _ (rw test at (p .0))) in
+          (omega arith, eqb-true _ _ (or-second _ _ (not-true (isCommand (getD io diskcmd 0)) (rw test at (p .1))) (p .2)))
+
+  -- A sound disk passes.
+  disk-test : SoundDisk left io → DiskPassed (ltb 0 left) (getD io diskstatus 0) (getD io diskcmd 0)
+  disk-test s = go (ltb 0 left) refl
+    where
+      go : (t : Bool) → ltb 0 left ≡ t → DiskPassed t (getD io diskstatus 0) (getD io diskcmd 0)
+      go true e =
+          let busy = s .busy (ltb-true 0 left e) in
+          let command = command-test (getD io diskcmd 0) (busy .1) (busy .2) in
+          (eq-eqb _ 1 (busy .0), command, rw command)
+      go false e =
+          let past = ltb-false 0 left e in
+          let free = s .free (omega arith) in
+          rw (free .0, free .1) (refl, refl, refl)
+
+-- ---- the record
+
+-- What the test asks, part by part.
+record Passed (r : Record) : Type 0 where
+  thirteen : length (r .regs) ≡ 13
+  all : length (r .io) ≡ 23
+  fits : fit widths (fieldsOf r) ≡ true
+  status : r .core .status ≤ 5
+  left : r .core .left ≤ 1024
+  disk : DiskPassed (ltb 0 (r .core .left)) (getD (r .io) diskstatus 0) (getD (r .io) diskcmd 0)
+
+-- A record that passes the test passes each part.
+passed : (r : Record) → isSound r ≡ true → Passed r
+unfolding isSound
+passed r e =
+    let left = r .core .left in
+    let status = getD (r .io) diskstatus 0 in
+    let command = getD (r .io) diskcmd 0 in
+    let fits = fit widths (fieldsOf r) in
+    let state = same (ltb 0 left) (eqb status 1) in
+    let same-command = same (ltb 0 left) (isCommand command) in
+    let known = isCommand command || eqb command 0 in
+    let p = each (eqb (length (r .regs)) 13) (eqb (length (r .io)) 23) fits (leb (r .core .status) 5) (leb left 1024) state same-command known e in
+    record {
+      thirteen = eqb-true _ _ (p .0);
+      all = eqb-true _ _ (p .1);
+      fits = p .2;
+      status = leb-true _ _ (p .3);
+      left = leb-true _ _ (p .4);
+      disk = (p .5, p .6, p .7);
+    }
+
+-- A record that passes each part passes the test.
+passing : (r : Record) → Passed r → isSound r ≡ true
+unfolding isSound
+passing r p =
+    rw (eq-eqb _ _ (p .thirteen), eq-eqb _ _ (p .all), p .fits, le-leb _ _ (p .status), le-leb _ _ (p .left), p .disk .0, p .disk .1) (p .disk .2)
+
+-- A record that passes has 13 registers and 23 places of I/O registers.
+pub sound-lengths : (r : Record) → isSound r ≡ true → (length (r .regs) ≡ 13) × (length (r .io) ≡ 23)
+sound-lengths r e = let p = passed r e in (p .thirteen, p .all)
+
+-- Its fields fit their widths.
+pub sound-fits : (r : Record) → isSound r ≡ true → fit widths (fieldsOf r) ≡ true
+sound-fits r e = passed r e .fits
+
+-- A record that passes the test is sound.
+pub sound-yes : (r : Record) → isSound r ≡ true → Sound (r .core) (r .regs) (r .io)
+unfolding ioBits
+sound-yes r e =
+    let p = passed r e in
+    let parts = sym (fields-fit r (p .thirteen)) ∙ p .fits in
+    let scalars = and-left (fit scalarWidths (scalarsOf (r .core))) _ parts in
+    let rest = and-right (fit scalarWidths (scalarsOf (r .core))) _ parts in
+    let registers = and-left (fit (replicate 13 32) (r .regs)) _ rest in
+    let io = and-right (fit (replicate 13 32) (r .regs)) _ rest in
+    let fitting : FittingIo (r .io) = λ n. rw (kept-at n) at (fit-at (map keptBits ioNumbers) (r .io) n io) in
+    record {
+      core =
+          record {
+            status = p .status;
+            handler = fit-at scalarWidths (scalarsOf (r .core)) 2 scalars;
+            pc = fit-at scalarWidths (scalarsOf (r .core)) 3 scalars;
+            age = fit-at scalarWidths (scalarsOf (r .core)) 4 scalars;
+            left = p .left;
+          };
+      thirteen = p .thirteen;
+      registers = λ n. lt-of-lt-of-le (fit-at (replicate 13 32) (r .regs) n registers) (repeated-le 13 32 n);
+      all = p .all;
+      fitting = fitting;
+      disk = disk-yes (r .core .left) (r .io) (fitting diskstatus) (p .disk);
+    }
+
+-- A sound record passes the test.
+pub sound-test : (r : Record) → Sound (r .core) (r .regs) (r .io) → isSound r ≡ true
+sound-test r s =
+    let k = s .core in
+    let registers = fit-repeated 13 32 (r .regs) (s .thirteen) (s .registers) in
+    let io = fit-all (map keptBits ioNumbers) (r .io) (sym (s .all)) (λ i. rw (kept-at i) (s .fitting i)) in
+    passing r
+    (record {
+      thirteen = s .thirteen;
+      all = s .all;
+      fits = fields-fit r (s .thirteen) ∙ both _ _ (scalars-fit (r .core) k) (both _ _ registers io);
+      status = k .status;
+      left = k .left;
+      disk = disk-test (r .core .left) (r .io) (s .disk);
+    })

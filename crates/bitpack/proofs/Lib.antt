@@ -3,3 +3,4 @@ pub mod BitLaws
 pub mod PackLaws
 pub mod ByteLaws
 pub mod StreamLaws
+pub mod FitLaws

@@ -1,17 +1,17 @@
 -- The test of soundness says what machine's Sound says. Assumes nothing.
-use Prim.Native.Nat.{ℕ, zero, suc, _^_, _≤_, _<_}
+use Prim.Native.Nat.{ℕ, _^_, _≤_, _<_}
 use mathlib.Core.Path.{_≡_, refl, sym, ap, _∙_}
-use mathlib.Core.Bool.{Bool, true, false, _&&_, _||_, false≢true, and-assoc}
+use mathlib.Core.Bool.{Bool, true, false, _&&_, _||_, false≢true}
 use mathlib.Core.List.{List, [], _∷_, _++_, map}
 use native.Mathlib.Nat.{lt-of-lt-of-le}
 use native.Mathlib.Omega.{arith}
 use lib.Dec.{eqb, ltb, leb}
 use lib.ListN.{length, getD, replicate, List·getD-eq-default}
-use lib.Pow.{pow-pos}
 use borrow.Author.Tests.{eqb-true, eqb-false, leb-true, ltb-true, ltb-false, lt-ltb, le-ltb, le-leb, eq-eqb, ne-eqb, not-true}
 use Rattle.text.proofs.Truth.{and-left, and-right, below}
 use Rattle.bitpack.specs.Packed.{fit}
 use Rattle.bitpack.proofs.PackLaws.{fit-at}
+use Rattle.bitpack.proofs.FitLaws.{fit-parts, fit-all, repeated-le, fit-repeated}
 use Rattle.isa.specs.Registers.{ioBits, diskcmd, diskstatus, monitorcmd}
 use Rattle.isa.proofs.IoLaws.{no-bits-above}
 use Rattle.machine.specs.declared.Core.{Core}
@@ -38,37 +38,7 @@ each true true false d e f g h q = absurd (false≢true q)
 each true false c d e f g h q = absurd (false≢true q)
 each false b c d e f g h q = absurd (false≢true q)
 
--- ---- lists that fit; these two hold of any widths
-
--- A list of two parts fits where each part does.
-pub fit-parts : (us ws xs ys : List ℕ) → length us ≡ length xs → fit (us ++ ws) (xs ++ ys) ≡ (fit us xs && fit ws ys)
-fit-parts [] ws [] ys e = refl
-fit-parts [] ws (x ∷ xs) ys e = absurd (omega arith)
-fit-parts (u ∷ us) ws [] ys e = absurd (omega arith)
-fit-parts (u ∷ us) ws (x ∷ xs) ys e =
-    ap (λ (t : Bool). ltb x (2 ^ u) && t) (fit-parts us ws xs ys (omega arith)) ∙ sym (and-assoc (ltb x (2 ^ u)) (fit us xs) (fit ws ys))
-
--- Values that are as many as the widths, each below its power, fit.
-pub fit-all : (ws vs : List ℕ) → length ws ≡ length vs → ((i : ℕ) → getD vs i 0 < 2 ^ getD ws i 0) → fit ws vs ≡ true
-fit-all [] [] e h = refl
-fit-all [] (v ∷ vs) e h = absurd (omega arith)
-fit-all (w ∷ ws) [] e h = absurd (omega arith)
-fit-all (w ∷ ws) (v ∷ vs) e h = both _ _ (lt-ltb v (2 ^ w) (h 0)) (fit-all ws vs (omega arith) (λ i. h (suc i)))
-
 -- ---- the widths of the registers
-
--- Equal widths: none is read as more.
-repeated-le : (k w n : ℕ) → 2 ^ getD (replicate k w) n 0 ≤ 2 ^ w
-repeated-le zero w n = pow-pos w
-repeated-le (suc k) w zero = omega arith
-repeated-le (suc k) w (suc n) = repeated-le k w n
-
--- As many values as equal widths fit where each is below their power.
-fit-repeated : (k w : ℕ) (vs : List ℕ) → length vs ≡ k → ((i : ℕ) → getD vs i 0 < 2 ^ w) → fit (replicate k w) vs ≡ true
-fit-repeated zero w [] e h = refl
-fit-repeated zero w (v ∷ vs) e h = absurd (omega arith)
-fit-repeated (suc k) w [] e h = absurd (omega arith)
-fit-repeated (suc k) w (v ∷ vs) e h = both _ _ (lt-ltb v (2 ^ w) (h 0)) (fit-repeated k w vs (omega arith) (λ i. h (suc i)))
 
 -- The width of an I/O register's field is what a record keeps of it; past the 23 both are 0.
 kept-at : (n : ℕ) → getD (map keptBits ioNumbers) n 0 ≡ keptBits n

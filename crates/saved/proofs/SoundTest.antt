@@ -10,6 +10,7 @@ use lib.ListN.{length, getD, replicate, List·getD-eq-default}
 use borrow.Author.Tests.{eqb-true, eqb-false, leb-true, ltb-true, ltb-false, lt-ltb, le-ltb, le-leb, eq-eqb, ne-eqb, not-true}
 use Rattle.text.proofs.Truth.{and-left, and-right, below}
 use Rattle.bitpack.specs.Packed.{fit}
+use Rattle.bitpack.specs.Needs.{Packs}
 use Rattle.bitpack.proofs.PackLaws.{fit-at}
 use Rattle.bitpack.proofs.FitLaws.{fit-parts, fit-all, repeated-le, fit-repeated}
 use Rattle.isa.specs.Registers.{ioBits, diskcmd, diskstatus, monitorcmd}
@@ -17,7 +18,7 @@ use Rattle.isa.proofs.IoLaws.{no-bits-above}
 use Rattle.machine.specs.declared.Core.{Core}
 use Rattle.machine.specs.declared.Record.{Record}
 use Rattle.machine.specs.Soundness.{keptBits, FittingIo, SoundCore, SoundDisk, Sound}
-use Rattle.saved.specs.Layout.{edition, ioNumbers, widths, fieldsOf}
+use Rattle.saved.specs.Layout.{edition, recordBytes, ioNumbers, widths, fieldsOf}
 use Rattle.saved.specs.Sound.{same, isCommand, isSound}
 
 -- ---- tests
@@ -220,3 +221,8 @@ sound-test r s =
       left = k .left;
       disk = disk-test (r .core .left) (r .io) (s .disk);
     })
+
+-- The fields of a sound record fill 91 bytes.
+pub packs : (r : Record) → isSound r ≡ true → (k : ℕ) → k ≡ recordBytes → Packs widths (fieldsOf r) k
+unfolding widths ioBits
+packs r h k e = record { fitting = sound-fits r h; whole = rw e; small = refl }

@@ -12,7 +12,6 @@ use borrow.Author.Tests.{eqb-true, eq-eqb}
 use Rattle.text.specs.Questions.{accepted}
 use Rattle.text.proofs.QuestionLaws.{first-yes}
 use Rattle.bitpack.specs.Packed.{packed, bytesOf, numberOf}
-use Rattle.bitpack.specs.Needs.{Packs}
 use Rattle.bitpack.proofs.PackLaws.{length-unpacked}
 use Rattle.bitpack.proofs.ByteLaws.{length-bytes, recoded, repacked}
 use Rattle.isa.specs.Registers.{ioBits}
@@ -20,12 +19,7 @@ use Rattle.machine.specs.declared.Record.{Record}
 use Rattle.saved.specs.Layout.{recordBytes, widths, fieldsOf, recordOf, savedBytes, savedFields}
 use Rattle.saved.specs.Sound.{isSound}
 use Rattle.saved.specs.Calls.{loadTold, loadRecord}
-use Rattle.saved.proofs.SoundTest.{sound-lengths, sound-fits}
-
--- The fields of a sound record fill 91 bytes.
-packs : (r : Record) → isSound r ≡ true → Packs widths (fieldsOf r) recordBytes
-unfolding widths ioBits
-packs r h = record { fitting = sound-fits r h; whole = refl; small = refl }
+use Rattle.saved.proofs.SoundTest.{sound-lengths, packs}
 
 -- ---- fields and records
 
@@ -58,7 +52,7 @@ module _ (r : Record) (sound : isSound r ≡ true) where
   -- The bytes of a sound record have its fields, ..
   fields-back : savedFields (savedBytes r) ≡ fieldsOf r
   unfolding savedFields savedBytes
-  fields-back = recoded (packs r sound)
+  fields-back = recoded (packs r sound recordBytes refl)
 
   -- .. and are the record.
   record-again : recordOf (savedFields (savedBytes r)) ≡ r

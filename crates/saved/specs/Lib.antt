@@ -2,4 +2,5 @@
 pub mod Layout
 pub mod Sound
 pub mod Calls
+pub mod Answers
 pub mod Examples

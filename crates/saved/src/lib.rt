@@ -1,1 +1,41 @@
 // The saved record. What its bytes are stands in specs/.
+use machine::Record;
+
+mod copies;
+mod fields;
+mod layout;
+mod loading;
+mod saving;
+mod sound;
+
+pub use loading::load;
+pub use saving::save;
+pub use sound::is_sound;
+
+// What saving answers.
+pub enum Saved {
+    // The bytes hold the record.
+    Done,
+    // The lent bytes are not as many as a record has.
+    WrongLength,
+    // The record is not sound.
+    Unsound,
+}
+
+// What reading a record answers.
+pub enum LoadAnswer {
+    // The record is read.
+    Loaded,
+    // The bytes are not as many as a record has.
+    WrongLength,
+    // The bytes are of another edition.
+    OtherEdition,
+    // The record is not sound.
+    Unsound,
+}
+
+// What reading a record hands back: the record, fresh where the bytes are refused, and the answer.
+pub struct Loaded {
+    pub state: Record,
+    pub answer: LoadAnswer,
+}

@@ -1,0 +1,110 @@
+-- `saved::fields::fields` meets its contract.
+use mathlib.Core.Path.{_≡_, sym, refl, _∙_}
+use native.Mathlib.Omega.{arith}
+use lib.ListN.{length, replicate}
+use borrow.Author.Needs.{needs}
+use Rattle.saved.specs.Layout.{fieldsOf}
+use Rattle.saved.proofs.PartLaws.{both-36, rest-23, other-io}
+use Rattle.saved.proofs.fields.fields.Statement.{statement}
+use Rattle.saved.proofs.fields.fields.Tie as tie
+
+-- The lengths of the record's arrays.
+regs-13 : (c : tie.Start) → length (c .args .r .regs) ≡ 13
+regs-13 c = search needs
+
+io-23 : (c : tie.Start) → length (c .args .r .io) ≡ 23
+io-23 c = search needs
+
+-- The registers are copied.
+put-13 : (c : tie.After-widen) → length (c .widen .last .1 .0) ≡ 13
+put-13 c = rw (c .widen .ensures) (regs-13 (c .before .before .before .before .before .before .before .before .before))
+
+array-write-f : tie.Need-array-write-f
+array-write-f c = search needs
+
+cast-f : tie.Need-cast-f
+cast-f c = search needs
+
+array-write-f-2 : tie.Need-array-write-f-2
+array-write-f-2 c = search needs
+
+cast-f-2 : tie.Need-cast-f-2
+cast-f-2 c = search needs
+
+array-write-f-3 : tie.Need-array-write-f-3
+array-write-f-3 c = search needs
+
+cast-f-3 : tie.Need-cast-f-3
+cast-f-3 c = search needs
+
+array-write-f-4 : tie.Need-array-write-f-4
+array-write-f-4 c = search needs
+
+array-write-f-5 : tie.Need-array-write-f-5
+array-write-f-5 c = search needs
+
+cast-f-4 : tie.Need-cast-f-4
+cast-f-4 c = search needs
+
+array-write-f-6 : tie.Need-array-write-f-6
+array-write-f-6 c = search needs
+
+slice-aggregate-widen : tie.Need-slice-aggregate-widen
+slice-aggregate-widen c = search needs
+
+sub-widen : tie.Need-sub-widen
+sub-widen c = search needs
+
+part-f-start : tie.Need-part-f-start
+part-f-start c = search needs
+
+part-f-end : tie.Need-part-f-end
+part-f-end c = search needs
+
+widen-requires : tie.Need-widen-requires
+widen-requires c κs = sym (regs-13 (c .before .before .before .before .before .before .before .before))
+
+slice-aggregate-widen-2 : tie.Need-slice-aggregate-widen-2
+slice-aggregate-widen-2 c = search needs
+
+sub-widen-2 : tie.Need-sub-widen-2
+sub-widen-2 c = search needs
+
+part-f-start-2 : tie.Need-part-f-start-2
+part-f-start-2 c = search needs
+
+part-f-end-2 : tie.Need-part-f-end-2
+part-f-end-2 c = omega (arith, both-36 (c .before .before .widen .last .1 .0) (replicate 23 0) (put-13 (c .before .before)) refl)
+
+widen-requires-2 : tie.Need-widen-requires-2
+widen-requires-2 c κs = rest-23 (c .before .before .before .widen .last .1 .0) (replicate 23 0) (put-13 (c .before .before .before)) refl ∙ sym (io-23 (c .before .before .before .before .before .before .before .before .before .before .before .before))
+
+returns : tie.Need-returns
+unfolding fieldsOf
+returns c = rw (other-io (c .before .before .before .before .before .widen .last .1 .0) (replicate 23 0) (put-13 (c .before .before .before .before .before)) refl (c .before .widen2 .last .1 .0), c .before .before .before .before .before .widen .ensures, c .before .widen2 .ensures)
+
+pub fields-spec : {M : Type 1} → statement M
+fields-spec =
+    tie.close
+    (tie.spec
+    array-write-f
+    cast-f
+    array-write-f-2
+    cast-f-2
+    array-write-f-3
+    cast-f-3
+    array-write-f-4
+    array-write-f-5
+    cast-f-4
+    array-write-f-6
+    slice-aggregate-widen
+    sub-widen
+    part-f-start
+    part-f-end
+    widen-requires
+    slice-aggregate-widen-2
+    sub-widen-2
+    part-f-start-2
+    part-f-end-2
+    widen-requires-2
+    returns)

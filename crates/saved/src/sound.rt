@@ -1,0 +1,64 @@
+// Which records are sound.
+use crate::fields::fields;
+use crate::layout::WIDTHS;
+use bitpack::all_fit;
+use isa::io::DISKCMD;
+use isa::io::DISKSTATUS;
+use machine::Record;
+ghost use mathlib.Core.Path.{_≡_};
+ghost use mathlib.Core.Bool.{_&&_, _||_};
+ghost use lib.Dec.{eqb, ltb};
+ghost use Rattle.saved.specs.Sound.{isSound, isCommand, same};
+
+// The largest status.
+const MOST_STATUS: u32 = 5;
+
+// The most cycles that the disk has to go.
+const MOST_LEFT: u32 = 1024;
+
+// Whether a record is sound.
+pub fn is_sound(r: Record) -> bool
+    ensures { λ b. ⌜ b ≡ isSound r ⌝ }
+{
+    let io = r.io;
+    let f = fields(r);
+    if !all_fit(&WIDTHS, &f) {
+        return false;
+    }
+    if MOST_STATUS < r.core.status {
+        return false;
+    }
+    if MOST_LEFT < r.core.left {
+        return false;
+    }
+    is_disk_sound(r.core.left, io[DISKSTATUS], io[DISKCMD])
+}
+
+// Whether the disk is busy, and has a command, exactly when it has cycles to go; else its command is 0.
+fn is_disk_sound(left: u32, status: u32, command: u32) -> bool
+    ensures { λ b. ⌜ b ≡ (same (ltb 0 left) (eqb status 1) && same (ltb 0 left) (isCommand command) && (isCommand command || eqb command 0)) ⌝ }
+{
+    let busy = 0 < left;
+    let asked = is_command(command);
+    if !agree(busy, status == 1) {
+        return false;
+    }
+    if !agree(busy, asked) {
+        return false;
+    }
+    asked || command == 0
+}
+
+// Whether a number is that of a disk command.
+fn is_command(n: u32) -> bool
+    ensures { λ b. ⌜ b ≡ isCommand n ⌝ }
+{
+    n == 1 || n == 2
+}
+
+// Both or neither.
+fn agree(a: bool, b: bool) -> bool
+    ensures { λ r. ⌜ r ≡ same a b ⌝ }
+{
+    if a { b } else { !b }
+}

@@ -12,21 +12,13 @@ use lib.ListN.{length, getD, drop, drop-of-length-le}
 use lib.Seq.{drop-cons}
 use lib.Pow.{pow-pos, pow-add, high, low, mod-pow-add}
 use borrow.Author.Tests.{ltb-true, lt-ltb, leb-true}
+use Rattle.text.proofs.Truth.{and-left, and-right}
 use Rattle.bitpack.specs.Bits.{bits}
 use Rattle.bitpack.specs.Packed.{total, packed, unpacked, fit}
 use Rattle.bitpack.specs.Needs.{narrow}
 use Rattle.bitpack.proofs.BitLaws.{bits-lt, bits-rest}
 
--- ---- tests
-
--- Both parts of a conjunction are true.
-and-left : (a b : Bool) → (a && b) ≡ true → a ≡ true
-and-left true b e = refl
-and-left false b e = e
-
-and-right : (a b : Bool) → (a && b) ≡ true → b ≡ true
-and-right true b e = e
-and-right false b e = absurd (false≢true e)
+-- ---- values that fit
 
 -- The first value of those that fit is below its power.
 fit-head : (w v : ℕ) (ws vs : List ℕ) → fit (w ∷ ws) (v ∷ vs) ≡ true → v < 2 ^ w

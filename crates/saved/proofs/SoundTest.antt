@@ -17,9 +17,10 @@ use Rattle.isa.specs.Registers.{ioBits, diskcmd, diskstatus, monitorcmd}
 use Rattle.isa.proofs.IoLaws.{no-bits-above}
 use Rattle.machine.specs.declared.Core.{Core}
 use Rattle.machine.specs.declared.Record.{Record}
+use Rattle.machine.specs.Execution.{isReadOrWrite}
 use Rattle.machine.specs.Soundness.{keptBits, FittingIo, SoundCore, SoundDisk, Sound}
 use Rattle.saved.specs.Layout.{edition, recordBytes, ioNumbers, widths, fieldsOf}
-use Rattle.saved.specs.Sound.{same, isCommand, isSound}
+use Rattle.saved.specs.Sound.{same, isSound}
 
 -- ---- tests
 
@@ -77,21 +78,12 @@ fields-fit r thirteen =
 -- ---- the disk
 
 -- The test of a command passes at 1 and 2 only.
-command-yes : (n : ℕ) → isCommand n ≡ true → (1 ≤ n) × (n ≤ 2)
-command-yes n e = go (eqb n 1) refl (eqb n 2) refl e
-  where
-    go : (t : Bool) → eqb n 1 ≡ t → (u : Bool) → eqb n 2 ≡ u → (t || u) ≡ true → (1 ≤ n) × (n ≤ 2)
-    go true p u q e = let one = eqb-true n 1 p in (omega arith, omega arith)
-    go false p true q e = let two = eqb-true n 2 q in (omega arith, omega arith)
-    go false p false q e = absurd (false≢true e)
+command-yes : (n : ℕ) → isReadOrWrite n ≡ true → (1 ≤ n) × (n ≤ 2)
+command-yes n e = (leb-true 1 n (and-left (leb 1 n) (leb n 2) e), leb-true n 2 (and-right (leb 1 n) (leb n 2) e))
 
 -- It passes there.
-command-test : (n : ℕ) → 1 ≤ n → n ≤ 2 → isCommand n ≡ true
-command-test n low high = go (eqb n 1) refl
-  where
-    go : (t : Bool) → eqb n 1 ≡ t → (t || eqb n 2) ≡ true
-    go true p = refl
-    go false p = let other = eqb-false n 1 p in eq-eqb n 2 (omega arith)
+command-test : (n : ℕ) → 1 ≤ n → n ≤ 2 → isReadOrWrite n ≡ true
+command-test n low high = rw (le-leb 1 n low, le-leb n 2 high)
 
 -- One of two tests passes: the second, where the first fails.
 or-second : (a b : Bool) → a ≡ false → (a || b) ≡ true → b ≡ true
@@ -100,7 +92,7 @@ or-second a b p e = rw p at e
 -- The disk's tests pass, of whether cycles are left, of diskstatus and of diskcmd.
 abbrev DiskPassed : Bool → ℕ → ℕ → Type 0
 DiskPassed busy status command =
-    (same busy (eqb status 1) ≡ true) × (same busy (isCommand command) ≡ true) × ((isCommand command || eqb command 0) ≡ true)
+    (same busy (eqb status 1) ≡ true) × (same busy (isReadOrWrite command) ≡ true) × ((isReadOrWrite command || eqb command 0) ≡ true)
 
 module _ (left : ℕ) (io : List ℕ) where
   -- A disk that passes is sound, where diskstatus is a bit.
@@ -117,7 +109,7 @@ module _ (left : ℕ) (io : List ℕ) where
       free none =
           let test = le-ltb 0 left (omega arith) in
           let other = eqb-false (getD io diskstatus 0) 1 (not-true _ (rw test at (p .0))) in
-          (omega arith, eqb-true _ _ (or-second _ _ (not-true (isCommand (getD io diskcmd 0)) (rw test at (p .1))) (p .2)))
+          (omega arith, eqb-true _ _ (or-second _ _ (not-true (isReadOrWrite (getD io diskcmd 0)) (rw test at (p .1))) (p .2)))
 
   -- A sound disk passes.
   disk-test : SoundDisk left io → DiskPassed (ltb 0 left) (getD io diskstatus 0) (getD io diskcmd 0)
@@ -153,8 +145,8 @@ passed r e =
     let command = getD (r .io) diskcmd 0 in
     let fits = fit widths (fieldsOf r) in
     let state = same (ltb 0 left) (eqb status 1) in
-    let same-command = same (ltb 0 left) (isCommand command) in
-    let known = isCommand command || eqb command 0 in
+    let same-command = same (ltb 0 left) (isReadOrWrite command) in
+    let known = isReadOrWrite command || eqb command 0 in
     let p = each (eqb (length (r .regs)) 13) (eqb (length (r .io)) 23) fits (leb (r .core .status) 5) (leb left 1024) state same-command known e in
     record {
       thirteen = eqb-true _ _ (p .0);

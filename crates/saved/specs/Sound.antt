@@ -1,20 +1,16 @@
 -- Whether a record is sound, as a test; `Soundness.Sound` of machine says the same of its parts (`sound-yes`, `sound-test`).
-use Prim.Native.Nat.{ℕ}
 use mathlib.Core.Bool.{Bool, not, cond, _&&_, _||_}
 use lib.Dec.{eqb, ltb, leb}
 use lib.ListN.{length, getD}
 use Rattle.bitpack.specs.Packed.{fit}
 use Rattle.isa.specs.Registers.{diskcmd, diskstatus}
 use Rattle.machine.specs.declared.Record.{Record}
+use Rattle.machine.specs.Execution.{isReadOrWrite}
 use Rattle.saved.specs.Layout.{widths, fieldsOf}
 
 -- Both or neither.
 abbrev pub same : Bool → Bool → Bool
 same a b = cond a b (not b)
-
--- "diskcmd is 1 or 2"
-abbrev pub isCommand : ℕ → Bool
-isCommand n = eqb n 1 || eqb n 2
 
 -- "A record is sound when each field fits, status is at most 5, left at most 1024, and left > 0 exactly when diskstatus = 1 and exactly when
 -- diskcmd is 1 or 2, else diskcmd is 0." A record has 13 registers and 23 places of I/O registers.
@@ -26,5 +22,5 @@ isSound r =
     && leb (r .core .status) 5
     && leb (r .core .left) 1024
     && same (ltb 0 (r .core .left)) (eqb (getD (r .io) diskstatus 0) 1)
-    && same (ltb 0 (r .core .left)) (isCommand (getD (r .io) diskcmd 0))
-    && (isCommand (getD (r .io) diskcmd 0) || eqb (getD (r .io) diskcmd 0) 0)
+    && same (ltb 0 (r .core .left)) (isReadOrWrite (getD (r .io) diskcmd 0))
+    && (isReadOrWrite (getD (r .io) diskcmd 0) || eqb (getD (r .io) diskcmd 0) 0)

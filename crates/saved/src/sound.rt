@@ -8,7 +8,8 @@ use machine::Record;
 ghost use mathlib.Core.Path.{_≡_};
 ghost use mathlib.Core.Bool.{_&&_, _||_};
 ghost use lib.Dec.{eqb, ltb};
-ghost use Rattle.saved.specs.Sound.{isSound, isCommand, same};
+ghost use Rattle.machine.specs.Execution.{isReadOrWrite};
+ghost use Rattle.saved.specs.Sound.{isSound, same};
 
 // The largest status.
 const MOST_STATUS: u32 = 5;
@@ -36,7 +37,7 @@ pub fn is_sound(r: Record) -> bool
 
 // Whether the disk is busy, and has a command, exactly when it has cycles to go; else its command is 0.
 fn is_disk_sound(left: u32, status: u32, command: u32) -> bool
-    ensures { λ b. ⌜ b ≡ (same (ltb 0 left) (eqb status 1) && same (ltb 0 left) (isCommand command) && (isCommand command || eqb command 0)) ⌝ }
+    ensures { λ b. ⌜ b ≡ (same (ltb 0 left) (eqb status 1) && same (ltb 0 left) (isReadOrWrite command) && (isReadOrWrite command || eqb command 0)) ⌝ }
 {
     let busy = 0 < left;
     let asked = is_command(command);
@@ -49,11 +50,14 @@ fn is_disk_sound(left: u32, status: u32, command: u32) -> bool
     asked || command == 0
 }
 
-// Whether a number is that of a disk command.
+// Whether a number is that of a disk command: 1, read, or 2, write.
 fn is_command(n: u32) -> bool
-    ensures { λ b. ⌜ b ≡ isCommand n ⌝ }
+    ensures { λ b. ⌜ b ≡ isReadOrWrite n ⌝ }
 {
-    n == 1 || n == 2
+    if n == 0 {
+        return false;
+    }
+    n <= 2
 }
 
 // Both or neither.

@@ -4,7 +4,8 @@ use mathlib.Core.Bool.{true}
 use lib.Dec.{eqb, ltb}
 use borrow.Author.Tests.{not-true, not-false}
 use borrow.Author.Needs.{needs}
-use Rattle.saved.specs.Sound.{same, isCommand}
+use Rattle.machine.specs.Execution.{isReadOrWrite}
+use Rattle.saved.specs.Sound.{same}
 use Rattle.saved.proofs.sound.is_disk_sound.Statement.{statement}
 use Rattle.saved.proofs.sound.is_disk_sound.Tie as tie
 
@@ -12,13 +13,13 @@ use Rattle.saved.proofs.sound.is_disk_sound.Tie as tie
 first-is : (c : tie.After-agree) → same (ltb 0 (c .before .before .args .left)) (eqb (c .before .before .args .status) 1) ≡ c .agree .result
 first-is c = sym (c .agree .ensures)
 
-asked-is : (c : tie.After-agree2) → same (ltb 0 (c .before .before .before .before .args .left)) (isCommand (c .before .before .before .before .args .command)) ≡ c .agree2 .result
+asked-is : (c : tie.After-agree2) → same (ltb 0 (c .before .before .before .before .args .left)) (isReadOrWrite (c .before .before .before .before .args .command)) ≡ c .agree2 .result
 asked-is c = sym (c .agree2 .ensures ∙ rw (c .before .before .before .is-command .ensures))
 
 first-yes : (c : tie.Else1) → same (ltb 0 (c .before .before .before .args .left)) (eqb (c .before .before .before .args .status) 1) ≡ true
 first-yes c = first-is (c .before) ∙ not-false (c .before .agree .result) (c .if1 .left)
 
-asked-yes : (c : tie.Else2) → same (ltb 0 (c .before .before .before .before .before .args .left)) (isCommand (c .before .before .before .before .before .args .command)) ≡ true
+asked-yes : (c : tie.Else2) → same (ltb 0 (c .before .before .before .before .before .args .left)) (isReadOrWrite (c .before .before .before .before .before .args .command)) ≡ true
 asked-yes c = asked-is (c .before) ∙ not-false (c .before .agree2 .result) (c .if2 .left)
 
 is-command-requires : tie.Need-is-command-requires

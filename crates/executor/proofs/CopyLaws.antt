@@ -1,29 +1,19 @@
 -- A sector copied whole. Assumes nothing.
-use Prim.Native.Nat.{ℕ, _+_, _-_, _*_, _≤_, _<_}
+use Prim.Native.Nat.{ℕ, _+_, _-_, _*_, _≤_}
 use mathlib.Core.Path.{_≡_, refl, sym, _∙_, ap}
 use mathlib.Core.Bool.{Bool, true, false, cond, _&&_}
 use mathlib.Core.List.{List, _++_, append-assoc}
-use native.Mathlib.Nat.{zero-add}
 use native.Mathlib.Omega.{arith}
 use lib.Dec.{eqb, leb}
-use lib.ListN.{length, getD, set, take, drop, length-take, length-drop}
+use lib.ListN.{length, getD, take, drop, length-take, length-drop}
 use lib.Seq.{sets-eq}
 use borrow.Author.Tests.{leb-true}
 use borrow.Rule.Slice.PartMut.{putMid, post-is}
 use Rattle.text.specs.Place.{put}
-use Rattle.text.proofs.PutLaws.{copy-turn, copy-end}
 use Rattle.isa.specs.Registers.{disksector, diskbuffer}
 use Rattle.machine.specs.declared.Core.{Core}
 use Rattle.executor.specs.Lent.{packed}
 use Rattle.machine.specs.Execution.{isReadOrWrite, copied}
-
--- A turn of a copy from the front on, and its end.
-module _ (d xs : List ℕ) (i : ℕ) where
-  pub whole-turn : i < length xs → put (set d i (getD xs i 0)) (i + 1) (drop (i + 1) xs) ≡ put d i (drop i xs)
-  whole-turn h = simp zero-add at (copy-turn d xs 0 i h)
-
-  pub whole-end : length xs ≤ i → d ≡ put d i (drop i xs)
-  whole-end h = simp zero-add at (copy-end d xs 0 i h)
 
 -- A part of a list that comes back as other numbers, as many.
 pub put-part : (d ys : List ℕ) (at n : ℕ) → length ys ≡ n → at + n ≤ length d → putMid at (at + n - at) d ys ≡ put d at ys

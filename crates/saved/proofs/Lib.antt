@@ -1,7 +1,6 @@
 -- Laws of the saved record.
 pub mod SoundTest
 pub mod TripLaws
-pub mod CopyLaws
 pub mod PartLaws
 pub mod FieldLaws
 pub mod AnswerLaws

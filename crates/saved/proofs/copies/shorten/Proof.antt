@@ -4,7 +4,7 @@ use mathlib.Core.Path.{_≡_, refl}
 use native.Mathlib.Omega.{arith}
 use lib.ListN.{length, length-set}
 use borrow.Author.Needs.{needs}
-use Rattle.saved.proofs.CopyLaws.{Copying, begun, turned, finished}
+use Rattle.text.proofs.CopyLaws.{Copying, begun, turned, finished}
 use Rattle.saved.proofs.copies.shorten.Statement.{statement}
 use Rattle.saved.proofs.copies.shorten.Tie as tie
 

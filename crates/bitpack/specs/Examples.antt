@@ -21,5 +21,11 @@ no-bits = refl
 one-missing : fit (1 ∷ 7 ∷ []) (1 ∷ []) ≡ false
 one-missing = refl
 
+one-too-large : fit (7 ∷ []) (128 ∷ []) ≡ false
+one-too-large = refl
+
+one-too-many : fit [] (0 ∷ []) ≡ false
+one-too-many = refl
+
 all-ones : fit (1 ∷ 7 ∷ []) (1 ∷ 127 ∷ []) ≡ true
 all-ones = refl

@@ -12,14 +12,18 @@ abbrev pub narrow : ℕ → List ℕ → Bool
 narrow most [] = true
 narrow most (w ∷ ws) = leb w most && narrow most ws
 
+-- "fields of 1 to 40 bits": the most that a width may be..
+abbrev pub mostBits : ℕ
+mostBits = 40
+
 -- Values that fit their widths, which fill k bytes.
 pub record Packs (ws vs : List ℕ) (k : ℕ) : Type 0 where
   pub fitting : fit ws vs ≡ true
   pub whole : total ws ≡ 8 * k
-  pub small : narrow 40 ws ≡ true
+  pub small : narrow mostBits ws ≡ true
 
 -- Widths that fill k bytes, and a place for the value of each.
 pub record Unpacks (ws : List ℕ) (k places : ℕ) : Type 0 where
   pub room : places ≡ length ws
   pub whole : total ws ≡ 8 * k
-  pub small : narrow 40 ws ≡ true
+  pub small : narrow mostBits ws ≡ true

@@ -1,4 +1,4 @@
--- Values of given widths, "bit-packed, most significant first": together they are one number in mixed radix.
+-- Values of given widths, "bit-packed, most significant first": the first value in the highest bits of one number.
 use Prim.Native.Nat.{ℕ, _+_, _*_, _^_}
 use mathlib.Core.Bool.{Bool, true, false, _&&_}
 use mathlib.Core.List.{List, [], _∷_}
@@ -17,7 +17,7 @@ packed [] vs = 0
 packed (w ∷ ws) [] = 0
 packed (w ∷ ws) (v ∷ vs) = v * 2 ^ total ws + packed ws vs
 
--- The values of a number: each has its bits.
+-- The values that a number packs, in the order of their widths.
 abbrev pub unpacked : List ℕ → ℕ → List ℕ
 unpacked [] n = []
 unpacked (w ∷ ws) n = bits n (total ws) w ∷ unpacked ws n

@@ -1,7 +1,7 @@
 -- Return trips of the saved record. Assumes nothing.
 use Prim.Native.Nat.{ℕ, _*_}
 use mathlib.Core.Path.{_≡_, refl, sym, _∙_, ap}
-use mathlib.Core.Bool.{true}
+use mathlib.Core.Bool.{true, false}
 use mathlib.Core.List.{List, [], _∷_, _++_}
 use native.Mathlib.Omega.{arith}
 use lib.Dec.{eqb}
@@ -18,7 +18,7 @@ use Rattle.isa.specs.Registers.{ioBits}
 use Rattle.machine.specs.declared.Record.{Record}
 use Rattle.saved.specs.Layout.{recordBytes, widths, fieldsOf, recordOf, savedBytes, savedFields}
 use Rattle.saved.specs.Sound.{isSound}
-use Rattle.saved.specs.Calls.{loadTold, loadRecord}
+use Rattle.saved.specs.Calls.{freshRecord, saveTold, saveBytes, loadTold, loadRecord}
 use Rattle.saved.proofs.SoundTest.{sound-lengths, packs}
 
 -- ---- fields and records
@@ -73,6 +73,22 @@ module _ (r : Record) (sound : isSound r ≡ true) where
   -- .. and reads back as itself.
   pub load-save : loadRecord (savedBytes r) ≡ r
   load-save = rw (bytes-count, edition-back, record-again, sound) refl
+
+  -- A sound record is saved in lent bytes of the right length, whatever they held; and what they hold then reads back.
+  pub save-accepts : (out : List ℕ) → length out ≡ recordBytes → (saveTold r out ≡ accepted 0) × (saveBytes r out ≡ savedBytes r)
+  save-accepts out size = (rw (eq-eqb (length out) recordBytes size, sound), rw (eq-eqb (length out) recordBytes size, sound))
+
+  pub trip : (out : List ℕ) → length out ≡ recordBytes → (loadTold (saveBytes r out) ≡ accepted 0) × (loadRecord (saveBytes r out) ≡ r)
+  trip out size =
+      let kept = save-accepts out size .1 in
+      (ap loadTold kept ∙ load-accepts, ap loadRecord kept ∙ load-save)
+
+-- Refused, saving keeps the lent bytes, and reading hands back the fresh record.
+pub save-keeps : (r : Record) (out : List ℕ) → eqb (saveTold r out .number) 0 ≡ false → saveBytes r out ≡ out
+save-keeps r out e = rw e
+
+pub load-fresh : (b : List ℕ) → eqb (loadTold b .number) 0 ≡ false → loadRecord b ≡ freshRecord
+load-fresh b e = rw e
 
 -- Two sound records with the same bytes are the same.
 pub same-bytes : (r s : Record) → isSound r ≡ true → isSound s ≡ true → savedBytes r ≡ savedBytes s → r ≡ s

@@ -9,13 +9,13 @@ use Rattle.machine.specs.State.{freshCore}
 use Rattle.saved.specs.Layout.{edition, recordBytes, recordOf, savedBytes, savedFields}
 use Rattle.saved.specs.Sound.{isSound}
 
--- "Fresh means all zero."
+-- The fresh record, all zero, as `State.freshMachine` has it.
 abbrev pub freshRecord : Record
 freshRecord = record { core = freshCore; regs = replicate 13 0; io = replicate 23 0 }
 
 -- ---- saving
 
--- "are the lent lengths those above? 1." "Saving: sound? 13."
+-- "are the lent lengths those above (..)? 1.": any but 91 gets a no, a longer one too. "Saving: sound? 13."
 abbrev pub saveQuestions : Record → List ℕ → List Question
 saveQuestions r out = (1, eqb (length out) recordBytes) ∷ (13, isSound r) ∷ []
 
@@ -28,7 +28,7 @@ saveBytes r out = unlessRefused (saveTold r out) (savedBytes r) out
 
 -- ---- reading
 
--- "Reading a record: edition 1? 14. Sound? 13."
+-- "are the lent lengths those above (..)? 1." "Reading a record: edition 1? 14. Sound? 13."
 abbrev pub loadQuestions : List ℕ → List Question
 loadQuestions bytes =
     (1, eqb (length bytes) recordBytes)
@@ -39,6 +39,6 @@ loadQuestions bytes =
 abbrev pub loadTold : List ℕ → Told
 loadTold bytes = firstNo (loadQuestions bytes) 0 (accepted 0)
 
--- "a record reader [hands back] the fresh one": the record that is read.
+-- The record handed back: the one read; where the call is refused, "a record reader the fresh one".
 abbrev pub loadRecord : List ℕ → Record
 loadRecord bytes = unlessRefused (loadTold bytes) (recordOf (savedFields bytes)) freshRecord

@@ -1,5 +1,5 @@
 -- The saved record: "91 bytes, bit-packed, most significant first: edition 8 (is 1), status 3, flag 1, PC 12, age 40, left 11, R3 to R15, then I/O
--- 0 to 17, 20, 21 in their widths: 728 bits."
+-- 0 to 17, 20, 21 in their widths: 728 bits." "The place in the irq2 list is not saved; the age finds it."
 use Prim.Native.Nat.{ℕ}
 use mathlib.Core.List.{List, [], _∷_, _++_, map}
 use lib.ListN.{getD, take, drop, replicate}
@@ -15,11 +15,12 @@ edition = 1
 abbrev pub recordBytes : ℕ
 recordBytes = 91
 
--- The numbers of the I/O registers; 18, 19 and 22 are kept in no bits.
+-- The record's places by I/O number. 18 and 19 are no registers, and monitorcmd, 22, "always holds 0": they have no bits, so a sound record
+-- holds 0 there.
 abbrev pub ioNumbers : List ℕ
 ioNumbers = 0 ∷ 1 ∷ 2 ∷ 3 ∷ 4 ∷ 5 ∷ 6 ∷ 7 ∷ 8 ∷ 9 ∷ 10 ∷ 11 ∷ 12 ∷ 13 ∷ 14 ∷ 15 ∷ 16 ∷ 17 ∷ 18 ∷ 19 ∷ 20 ∷ 21 ∷ 22 ∷ []
 
--- The widths of the fields: edition, status, flag, PC, age, left, R3 to R15, the I/O registers.
+-- The widths of the fields.
 unfoldable pub widths : List ℕ
 widths = 8 ∷ 3 ∷ 1 ∷ 12 ∷ 40 ∷ 11 ∷ (replicate 13 32 ++ map keptBits ioNumbers)
 

@@ -12,8 +12,7 @@ use Rattle.saved.specs.Layout.{widths, fieldsOf}
 abbrev pub same : Bool → Bool → Bool
 same a b = cond a b (not b)
 
--- "A record is sound when each field fits, status is at most 5, left at most 1024, and left > 0 exactly when diskstatus = 1 and exactly when
--- diskcmd is 1 or 2, else diskcmd is 0." A record has 13 registers and 23 places of I/O registers.
+-- Document 01's sentence, which Soundness quotes, in its order. A record has 13 registers and 23 places of I/O registers.
 unfoldable pub isSound : Record → Bool
 isSound r =
     eqb (length (r .regs)) 13

@@ -2,11 +2,11 @@
 use Prim.Native.Nat.{ℕ, _+_, _-_, _*_, _/_, _%_, _^_, _≤_, _<_}
 use mathlib.Core.Path.{_≡_, refl, sym, ap, _∙_}
 use mathlib.Core.Bool.{Bool, true, false}
-use native.Mathlib.Nat.{mod-lt, mod-eq-of-lt, div-one, div-eq-of-lt, le-div-iff-mul-le, zero-add, one-mul}
+use native.Mathlib.Nat.{mod-lt, div-one, div-eq-of-lt, le-div-iff-mul-le, add-zero, zero-add, one-mul}
 use native.Mathlib.Omega.{arith}
 use lib.Bits.{bitAnd, bitOr, and-mask, or-shifted}
 use lib.Dec.{ltb, eqb, lit<}
-use lib.Pow.{pow-pos, shl-exact, shr-shr, mod-pow-add, field, mod-mod-pow}
+use lib.Pow.{pow-pos, shl-exact, shr-shr, high, low, mod-pow-add, field, mod-mod-pow}
 use borrow.Author.Tests.{ltb-true, ltb-false, ne-eqb}
 use Rattle.bitpack.specs.Bits.{bits}
 
@@ -56,9 +56,32 @@ one-shifted k h = shl-exact 1 k 64 (lit< tt) (omega arith) ∙ one-mul (2 ^ k)
 pub masked : (x k : ℕ) → k < 64 → bitAnd x ((1 * 2 ^ k) % 2 ^ 64 - 1) ≡ x % 2 ^ k
 masked x k h = ap (λ (p : ℕ). bitAnd x (p - 1)) (one-shifted k h) ∙ and-mask x k
 
--- `(a << k) | v` is a sum.
-pub shifted-in : (a k v : ℕ) → a * 2 ^ k < 2 ^ 64 → v < 2 ^ k → bitOr ((a * 2 ^ k) % 2 ^ 64) v ≡ a * 2 ^ k + v
-shifted-in a k v room h = ap (λ (x : ℕ). bitOr x v) (mod-eq-of-lt room) ∙ or-shifted a k v h
+-- Of two runs joined, the low m + k bits are the m low bits of the first and the second.
+joined-low : (a k v m : ℕ) → v < 2 ^ k → (a * 2 ^ k + v) % 2 ^ (m + k) ≡ a % 2 ^ m * 2 ^ k + v
+joined-low a k v m h = mod-pow-add (a * 2 ^ k + v) m k ∙ rw (high a k h, low a k h)
+
+-- `(a << k) | v` is a sum of which 64 bits are kept, ..
+pub shifted-in : (a k v : ℕ) → k < 64 → v < 2 ^ k → bitOr ((a * 2 ^ k) % 2 ^ 64) v ≡ (a * 2 ^ k + v) % 2 ^ 64
+shifted-in a k v small h = rw (let e : (64 - k) + k ≡ 64 = omega arith in e) at (kept (64 - k))
+  where
+    kept : (m : ℕ) → bitOr ((a * 2 ^ k) % 2 ^ (m + k)) v ≡ (a * 2 ^ k + v) % 2 ^ (m + k)
+    kept m =
+        let shifted = ap (λ (x : ℕ). x % 2 ^ (m + k)) (sym (add-zero (a * 2 ^ k))) ∙ joined-low a k 0 m (pow-pos k) ∙ add-zero (a % 2 ^ m * 2 ^ k) in
+        ap (λ (x : ℕ). bitOr x v) shifted ∙ or-shifted (a % 2 ^ m) k v h ∙ sym (joined-low a k v m h)
+
+-- .. so that its low bits are those of a and v where both have room.
+pub shifted-low : (a m k v : ℕ) → m + k ≤ 64 → v < 2 ^ k → (a * 2 ^ k + v) % 2 ^ 64 % 2 ^ (m + k) ≡ a % 2 ^ m * 2 ^ k + v
+shifted-low a m k v room h =
+    (rw (let e : (64 - (m + k)) + (m + k) ≡ 64 = omega arith in e) at (mod-mod-pow (a * 2 ^ k + v) (64 - (m + k)) (m + k))) ∙ joined-low a k v m h
+
+module _ (a have u : ℕ) (enough : u ≤ have) where
+  -- The high u of the low bits of a, ..
+  pub top-of : a / 2 ^ (have - u) % 2 ^ u ≡ a % 2 ^ have / 2 ^ (have - u)
+  top-of = sym (rw (let e : u + (have - u) ≡ have = omega arith in e) at (field a u (have - u)))
+
+  -- .. and those below them.
+  pub rest-of : a % 2 ^ (have - u) ≡ a % 2 ^ have % 2 ^ (have - u)
+  rest-of = sym (rw (let e : u + (have - u) ≡ have = omega arith in e) at (mod-mod-pow a u (have - u)))
 
 -- `v >> w` is 0 where v has no more than w bits.
 pub shift-test : (v w : ℕ) → eqb (v / 2 ^ w) 0 ≡ ltb v (2 ^ w)

@@ -7,9 +7,10 @@ use mathlib.Core.List.{List}
 use native.Mathlib.Nat.{add-comm, lt-of-lt-of-le, mod-one}
 use native.Mathlib.Numerals.{add-one}
 use native.Mathlib.Omega.{arith}
+use lib.Arith.{digits-lt}
 use lib.Dec.{leb, eqb}
 use lib.ListN.{length, getD, drop, set, length-set, drop-of-length-le}
-use lib.Pow.{shl-lt, pow-mono}
+use lib.Pow.{pow-add, pow-mono}
 use lib.Seq.{ext-getD, getD-set-same, getD-set-other}
 use borrow.Author.Tests.{leb-true, leb-false, eqb-true, eqb-false}
 use Rattle.bitpack.specs.Bits.{bits}
@@ -56,10 +57,13 @@ module _ {N : ℕ} {ws us out : List ℕ} {i n acc have : ℕ} (l : Loop N ws us
           let m = l .state .meet in
           absurd (omega arith)
 
-  -- What is held has `have` bits, so w bits more fit 64.
-  pub pull-lt : (w : ℕ) → have + w ≤ 64 → acc * 2 ^ w < 2 ^ 64
-  pull-lt w h =
-      lt-of-lt-of-le (shl-lt have w (rw (l .state .held) (bits-lt N (total (drop i ws)) have))) (pow-mono h)
+  -- What is held has `have` bits, ..
+  held-lt : acc < 2 ^ have
+  held-lt = rw (l .state .held) (bits-lt N (total (drop i ws)) have)
+
+  -- .. so w bits more fit 64.
+  pub pull-lt : (w v : ℕ) → have + w ≤ 64 → v < 2 ^ w → acc * 2 ^ w + v < 2 ^ 64
+  pull-lt w v h k = lt-of-lt-of-le (rw (pow-add 2 have w) (digits-lt held-lt k)) (pow-mono h)
 
   -- Width i goes in.
   pub pulled : (w v acc′ : ℕ) → w ≡ getD ws i 0 → v ≡ getD (unpacked ws N) i 0 → acc′ ≡ acc * 2 ^ w + v → i < length ws → have + w < 64
@@ -100,10 +104,6 @@ module _ {N : ℕ} {ws us out : List ℕ} {i n acc have : ℕ} (l : Loop N ws us
         ∙ ap (λ (x : ℕ). bits N x u) above
         ∙ ap (bits N (total (drop (suc n) us))) hu
         ∙ sym (unpacked-at us n N)
-
-    -- It has no more bits than the width.
-    pub field-lt : acc / 2 ^ (have - u) < 2 ^ u
-    field-lt = rw (field-is, unpacked-at us n N, ← hu) (bits-lt N (total (drop (suc n) us)) u)
 
     -- Width n comes out.
     pub emitted : (acc′ : ℕ) → acc′ ≡ acc % 2 ^ (have - u) → Loop N ws us (set out n (acc / 2 ^ (have - u))) i (n + 1) acc′ (have - u)

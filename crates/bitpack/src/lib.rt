@@ -1,4 +1,5 @@
-// Values of given widths packed into bytes, most significant first, and taken out again. The widths are a list lent by the caller.
+// Values of given widths packed into bytes, most significant first, and taken out again. The widths are a list lent by the caller, who shows what
+// packing asks: no call is refused.
 ghost use mathlib.Core.Path.{_≡_};
 ghost use Prim.Native.Nat.{_+_, _*_, _%_, _^_, _<_};
 ghost use lib.ListN.{length};
@@ -21,15 +22,22 @@ fn low(x: u64, k: u64) -> u64
     x & ((1 << k) - 1)
 }
 
-// The bits of a, and below them the k bits of v.
+// The bits of a, and below them the k bits of v; the highest go where 64 bits do not hold them all.
 fn append(a: u64, k: u64, v: u64) -> u64
-    requires { ⌜ (k < 64) × ((a * 2 ^ k < 2 ^ 64) × (v < 2 ^ k)) ⌝ }
-    ensures { λ r. ⌜ r ≡ a * 2 ^ k + v ⌝ }
+    requires { ⌜ (k < 64) × (v < 2 ^ k) ⌝ }
+    ensures { λ r. ⌜ r ≡ (a * 2 ^ k + v) % 2 ^ 64 ⌝ }
 {
     (a << k) | v
 }
 
-// Packs values into bytes, which they fill.
+// The low byte.
+fn low_byte(x: u64) -> u8
+    ensures { λ r. ⌜ r ≡ x % 2 ^ 8 ⌝ }
+{
+    (x % 256) as u8
+}
+
+// Packs values into bytes, which they fill. Above the bits that are held stand some that came out already.
 pub fn pack(widths: &[u8], values: &[u64], out: &mut [u8])
     requires { ⌜ Packs (now widths) (now values) (length (now out)) ⌝ }
     ensures { λ _. ⌜ now (out .exit) ≡ bytesOf (length (now (out .entry))) (packed (now (widths .entry)) (now (values .entry))) ⌝ }
@@ -41,8 +49,7 @@ pub fn pack(widths: &[u8], values: &[u64], out: &mut [u8])
     while n < out.len() {
         if 8 <= have {
             have -= 8;
-            out[n] = (acc >> have) as u8;
-            acc = low(acc, have);
+            out[n] = low_byte(acc >> have);
             n += 1;
         } else {
             let w = wide(widths[i]);

@@ -6,6 +6,7 @@ use isa::io::DISKCMD;
 use isa::io::DISKSECTOR;
 use isa::io::DISKSTATUS;
 use machine::Core;
+use words::copies::copy_words;
 ghost use mathlib.Core.Path.{_≡_};
 ghost use mathlib.Core.Bool.{cond};
 ghost use mathlib.Core.List.{List};
@@ -89,16 +90,4 @@ fn copy_sector(target: &mut [u32], at: usize, source: &[u32], from: usize)
     ensures { λ _. ⌜ now (target .exit) ≡ put (now (target .entry)) at (take 128 (drop from (now (source .entry)))) ⌝ }
 {
     copy_words(&mut target[at..at + SECTOR], &source[from..from + SECTOR]);
-}
-
-// Copies words to as many places.
-fn copy_words(target: &mut [u32], source: &[u32])
-    requires { ⌜ length (now target) ≡ length (now source) ⌝ }
-    ensures { λ _. ⌜ now (target .exit) ≡ now (source .entry) ⌝ }
-{
-    let mut i = 0;
-    while i < target.len() {
-        target[i] = source[i];
-        i += 1;
-    }
 }

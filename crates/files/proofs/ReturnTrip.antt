@@ -2,31 +2,33 @@
 -- there is room, and reading the text into any slice of that length, whatever it held, succeeds and gives the memory back; of an image, the same
 -- image, with zeros above bit 47. In the statements w is what the writer answered and `sent` the slice that it was lent, after the call; r is what
 -- the reader answered and `after` the memory that it was lent, after the call. Assumes nothing.
-use Prim.Native.Nat.{ℕ, zero, suc, _+_, _-_, _*_, _%_, _^_, _≤_, _<_, suc-le-suc}
+use Prim.Native.Nat.{ℕ, zero, suc, _+_, _-_, _*_, _%_, _^_, _≤_}
 use mathlib.Core.Path.{_≡_, refl, sym, _∙_, ap}
 use mathlib.Core.Bool.{Bool, true}
-use mathlib.Core.List.{List, [], _∷_, _++_, map, append-nil}
-use native.Mathlib.Nat.{mod-eq-of-lt, mod-mod, le-refl, le-of-suc-le-suc, not-suc-le-zero, zero-add}
+use mathlib.Core.List.{List, [], _∷_, map, append-nil}
+use native.Mathlib.Nat.{one-le-pow, mod-mod, le-refl, zero-add}
 use native.Mathlib.Omega.{arith}
-use lib.ListN.{length, take, drop, replicate, length-map, length-take, length-drop, take-append-drop}
-use lib.Seq.{take-append-seam, drop-append-seam, getD-take, getD-drop, sets-eq, take-add}
+use lib.ListN.{length, take, drop, replicate, length-map, take-append-drop}
+use lib.Seq.{take-append-seam, drop-append-seam, sets-eq, take-add}
 use lib.Dec.{ltb}
 use borrow.Author.Tests.{lt-ltb, le-leb, eq-eqb}
 use Rattle.text.specs.Questions.{Told, accepted, firstBad}
 use Rattle.text.specs.Numerals.{digits, value}
 use Rattle.text.specs.Lines.{lines, unlines}
 use Rattle.text.specs.Place.{put}
+use Rattle.text.specs.Ranges.{Below}
 use Rattle.text.proofs.QuestionLaws.{first-yes}
 use Rattle.text.proofs.DigitLaws.{length-digits, digits-low, all-written, value-written}
 use Rattle.text.proofs.LineLaws.{lines-unlines, written-no-lf}
 use Rattle.text.proofs.PutLaws.{put-front}
+use Rattle.text.proofs.RangeLaws.{below-append, below-zeros, below-part, below-mod}
 use Rattle.files.proofs.FillLaws.{word-lt}
 use Rattle.files.proofs.LayLaws.{length-text}
 use Rattle.files.proofs.SizeLaws.{part-words, part-within, length-part, length-sectors, is-part}
 use Rattle.files.specs.declared.FileRead.{FileRead}
 use Rattle.files.specs.declared.Written.{Written}
 use Rattle.files.specs.Sizes.{imageWords, dataWords, frameBytes, sectorWords, imageDigits, wordDigits, frameDigits, isImageLength, isDataLength, isFrameLength, isPartLength, isDiskPart}
-use Rattle.files.specs.MemoryFile.{isWord, wordQuestions, linesTold, readTold, writeTold, fileWords, fileText, sectorsOf, Below, low48, SameImage}
+use Rattle.files.specs.MemoryFile.{isWord, wordQuestions, linesTold, readTold, writeTold, fileWords, fileText, sectorsOf, low48, SameImage}
 use Rattle.files.specs.Answers.{fileReadTold, writtenTold}
 use Rattle.files.specs.Promises.{MemoryRead, TextWritten}
 use Rattle.files.specs.declared.FileRead.the-variants as FileRead
@@ -53,36 +55,47 @@ written-values k (w ∷ ws) = rw (value-written 16 (omega arith) (omega arith) k
 -- ---- over the digit count
 
 module _ (k : ℕ) (m : List ℕ) where
-  -- Writing succeeds where there is room: the text stands at the front, and what stood after it still does.
+  -- Writing succeeds where there is room, ..
+  pub text-written : (isRight : Bool) (room : ℕ) → isRight ≡ true → length (fileText k m) ≤ room → writeTold isRight (fileText k m) room ≡ accepted (length (fileText k m))
+  unfolding writeTold
+  text-written isRight room right fits = rw (right, le-leb (length (fileText k m)) room fits)
+
+  -- .. the text stands at the front, and what stood after it still does.
   pub writing : (isRight : Bool) (out : List ℕ) (w : Written) (sent : List ℕ) → isRight ≡ true → length (fileText k m) ≤ length out
       → TextWritten isRight (fileText k m) out w sent
       → (writtenTold w ≡ accepted (length (fileText k m)))
       × (take (length (fileText k m)) sent ≡ fileText k m)
       × (drop (length (fileText k m)) sent ≡ drop (length (fileText k m)) out)
-  unfolding writeTold
   writing isRight out w sent right room p =
-      let fits = le-leb (length (fileText k m)) (length out) room in
-      let front = rw (right, fits) at (p .bytes) ∙ put-front out (fileText k m) room in (
-        rw (right, fits) at (p .answer),
+      let told = text-written isRight (length out) right room in
+      let front = rw told at (p .bytes) ∙ put-front out (fileText k m) room in (
+        p .answer ∙ told,
         rw (front, take-append-seam),
         rw (front, drop-append-seam),
       )
 
-  all-words : (n : ℕ) → n ≡ length m → fileWords n (lines (fileText k m)) ≡ map (λ word. word % 16 ^ k) m
+  -- Reading the text succeeds, ..
+  pub text-read : (isRight : ℕ → Bool) (n : ℕ) → isRight n ≡ true → n ≡ length m → readTold k isRight n (fileText k m) ≡ accepted 0
+  unfolding readTold linesTold
+  text-read isRight n right size =
+      let good = ap (λ (ls : List (List ℕ)). firstBad (wordQuestions k n) 0 ls (accepted 0)) (text-lines k m)
+      ∙ written-good k n 0 m (accepted 0) (rw (zero-add, size) (le-refl (length m))) in
+      rw (right, good)
+
+  -- .. and each word has its k low digits then, ..
+  pub all-words : (n : ℕ) → n ≡ length m → fileWords n (lines (fileText k m)) ≡ map (λ word. word % 16 ^ k) m
   unfolding fileWords
   all-words n e =
       let none : n - length (map (digits 16 k) m) ≡ 0 = rw (length-map m (digits 16 k)) (omega arith) in
       rw (text-lines k m, written-values k m, none, append-nil)
 
-  -- Reading the text succeeds, whatever the slice held: each word has its k low digits.
+  -- .. whatever the slice held.
   pub reading : (isRight : ℕ → Bool) (d : List ℕ) (r : FileRead) (after : List ℕ) → isRight (length d) ≡ true → length d ≡ length m
       → MemoryRead k isRight (fileText k m) d r after
       → (fileReadTold r ≡ accepted 0) × (after ≡ map (λ word. word % 16 ^ k) m)
-  unfolding readTold linesTold
   reading isRight d r after right size p =
-      let good = ap (λ (ls : List (List ℕ)). firstBad (wordQuestions k (length d)) 0 ls (accepted 0)) (text-lines k m)
-      ∙ written-good k (length d) 0 m (accepted 0) (rw (zero-add, size) (le-refl (length m))) in
-      (rw (right, good) at (p .answer), rw (right, good) at (p .words) ∙ all-words (length d) size)
+      let told = text-read isRight (length d) right size in
+      (p .answer ∙ told, rw told at (p .words) ∙ all-words (length d) size)
 
   -- Both: the text that was written is read.
   pub return-trip : (isRight : Bool) (isRight′ : ℕ → Bool) (out d : List ℕ) (w : Written) (sent : List ℕ) (r : FileRead) (after : List ℕ)
@@ -94,11 +107,6 @@ module _ (k : ℕ) (m : List ℕ) where
       let wrote = writing isRight out w sent right room p in
       let back = reading isRight′ d r after right′ size (rw (wrote .1) at q) in
       (wrote .0, back .0, back .1)
-
--- Words below a limit come back themselves.
-same-words : (limit : ℕ) (m : List ℕ) → Below limit m → map (λ word. word % limit) m ≡ m
-same-words limit [] h = refl
-same-words limit (w ∷ ws) h = rw (mod-eq-of-lt (h 0 (omega arith)), same-words limit ws (λ i k. h (suc i) (suc-le-suc k)))
 
 -- ---- the four memories
 
@@ -125,23 +133,13 @@ high-bits-not-written (w ∷ ws) = rw (digits-low 16 (omega arith) 12 w, high-bi
 
 good-words-below : (k room i : ℕ) (ls : List (List ℕ)) (t : Told) → firstBad (wordQuestions k room) i ls t .number ≡ 0 → Below (16 ^ k) (map (value 16) ls)
 unfolding firstBad
-good-words-below k room i [] t good j h = absurd (not-suc-le-zero h)
-good-words-below k room i (l ∷ ls) t good zero h =
+good-words-below k room i [] t good n = one-le-pow k 16 (omega arith)
+good-words-below k room i (l ∷ ls) t good zero =
     let left = first-yes 10 (i + 1) (ltb i room) _ (omega arith) good in
     word-lt k l (first-yes 9 (i + 1) (isWord k l) _ (omega arith) (left .1) .0)
-good-words-below k room i (l ∷ ls) t good (suc j) h =
+good-words-below k room i (l ∷ ls) t good (suc n) =
     let left = first-yes 10 (i + 1) (ltb i room) _ (omega arith) good in
-    good-words-below k room (i + 1) ls t (first-yes 9 (i + 1) (isWord k l) _ (omega arith) (left .1) .1) j (le-of-suc-le-suc h)
-
-below-append : (limit : ℕ) (a b : List ℕ) → Below limit a → Below limit b → Below limit (a ++ b)
-below-append limit [] b ha hb i h = hb i h
-below-append limit (x ∷ a) b ha hb zero h = ha 0 (omega arith)
-below-append limit (x ∷ a) b ha hb (suc i) h = below-append limit a b (λ j k. ha (suc j) (suc-le-suc k)) hb i (le-of-suc-le-suc h)
-
-below-zeros : (limit : ℕ) → 0 < limit → (n : ℕ) → Below limit (replicate n 0)
-below-zeros limit pos zero i h = absurd (not-suc-le-zero h)
-below-zeros limit pos (suc n) zero h = pos
-below-zeros limit pos (suc n) (suc i) h = below-zeros limit pos n i (le-of-suc-le-suc h)
+    good-words-below k room (i + 1) ls t (first-yes 9 (i + 1) (isWord k l) _ (omega arith) (left .1) .1) n
 
 pub high-bits-read-zero : (text image : List ℕ) (after : List ℕ) → MemoryRead imageDigits isImageLength text image FileRead.Filled after → Below (2 ^ 48) after
 unfolding readTold linesTold fileWords
@@ -162,7 +160,7 @@ data-returns memory out d w sent r after size below room size′ p q =
     let bytes : length (fileText 8 memory) ≡ 36864 = rw (length-text, size) in
     let trip = return-trip 8 memory (isDataLength (length memory)) isDataLength out d w sent r after
     (eq-eqb (length memory) 4096 size) (eq-eqb (length d) 4096 size′) (rw bytes room) (size′ ∙ sym size) p (rw bytes q) in
-    (trip .0 ∙ ap accepted bytes, trip .1, trip .2 ∙ same-words (2 ^ 32) memory below)
+    (trip .0 ∙ ap accepted bytes, trip .1, trip .2 ∙ below-mod (2 ^ 32) memory below)
 
 pub frame-returns : (frame out d : List ℕ) (w : Written) (sent : List ℕ) (r : FileRead) (after : List ℕ)
     → length frame ≡ frameBytes → Below (2 ^ 8) frame → 196608 ≤ length out → length d ≡ frameBytes
@@ -173,14 +171,7 @@ frame-returns frame out d w sent r after size below room size′ p q =
     let bytes : length (fileText 2 frame) ≡ 196608 = rw (length-text, size) in
     let trip = return-trip 2 frame (isFrameLength (length frame)) isFrameLength out d w sent r after
     (eq-eqb (length frame) 65536 size) (eq-eqb (length d) 65536 size′) (rw bytes room) (size′ ∙ sym size) p (rw bytes q) in
-    (trip .0 ∙ ap accepted bytes, trip .1, trip .2 ∙ same-words (2 ^ 8) frame below)
-
--- A part of such a memory is such a one.
-below-part : (limit : ℕ) (m : List ℕ) (at n : ℕ) → Below limit m → Below limit (take n (drop at m))
-below-part limit m at n h i k =
-    let size = length-take n (drop at m) in
-    let left = length-drop at m in
-    rw (getD-take n (drop at m) i 0 (omega arith), getD-drop at m i 0) (h (at + i) (omega arith))
+    (trip .0 ∙ ap accepted bytes, trip .1, trip .2 ∙ below-mod (2 ^ 8) frame below)
 
 -- A part of the disk, read into a part of as many sectors.
 pub disk-returns : (disk out d : List ℕ) (first sectors : ℕ) (w : Written) (sent : List ℕ) (r : FileRead) (after : List ℕ)
@@ -193,7 +184,7 @@ disk-returns disk out d first sectors w sent r after right below room size p q =
     let bytes = length-part disk first sectors right in
     let trip = return-trip 8 part (isDiskPart (length disk) first sectors) isPartLength out d w sent r after
     right (is-part disk first sectors right (length d) size) (rw bytes room) (size ∙ sym (length-sectors disk first sectors right)) p (rw bytes q) in
-    (trip .0 ∙ ap accepted bytes, trip .1, trip .2 ∙ same-words (2 ^ 32) part (below-part (2 ^ 32) disk (128 * first) (128 * sectors) below))
+    (trip .0 ∙ ap accepted bytes, trip .1, trip .2 ∙ below-mod (2 ^ 32) part (below-part (2 ^ 32) (128 * sectors) (128 * first) disk below))
 
 -- Put in its place, the part leaves the disk the same.
 pub part-in-place : (disk : List ℕ) (first sectors : ℕ) → isDiskPart (length disk) first sectors ≡ true

@@ -1,11 +1,11 @@
 -- "Memory files: one word a line, 12, 8 or 2 hex digits (instructions, words, frame), either case; missing lines are zero. Written: every
 -- word of the slice, capitals." The number of digits is k.
-use Prim.Native.Nat.{ℕ, _-_, _*_, _%_, _^_, _<_}
+use Prim.Native.Nat.{ℕ, _-_, _*_, _%_, _^_}
 use mathlib.Core.Path.{_≡_}
 use mathlib.Core.Bool.{Bool, _&&_}
 use mathlib.Core.List.{List, [], _∷_, _++_, map}
 use lib.Dec.{eqb, ltb, leb}
-use lib.ListN.{length, replicate, take, drop, getD}
+use lib.ListN.{length, replicate, take, drop}
 use Rattle.text.specs.Questions.{Question, Told, accepted, firstNo, firstBad}
 use Rattle.text.specs.Numerals.{digits, allDigits, value}
 use Rattle.text.specs.Lines.{lines, unlines}
@@ -33,10 +33,6 @@ readTold k isRight length text = firstNo ((1, isRight length) ∷ []) 0 (linesTo
 -- The n words that a good file gives: one for each line, and "missing lines are zero".
 unfoldable pub fileWords : ℕ → List (List ℕ) → List ℕ
 fileWords n ls = map (value 16) ls ++ replicate (n - length ls) 0
-
--- Each word is below a limit, as in every slice whose words have so many bits.
-abbrev pub Below : ℕ → List ℕ → Type 0
-Below limit words = (i : ℕ) → i < length words → getD words i 0 < limit
 
 -- ---- images
 

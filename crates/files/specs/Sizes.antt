@@ -47,6 +47,9 @@ isImageLength n = eqb n imageWords
 abbrev pub isDataLength : ℕ → Bool
 isDataLength n = eqb n dataWords
 
+abbrev pub isDiskLength : ℕ → Bool
+isDiskLength n = eqb n diskWords
+
 abbrev pub isFrameLength : ℕ → Bool
 isFrameLength n = eqb n frameBytes
 
@@ -58,4 +61,4 @@ isPartLength n = eqb (n % sectorWords) 0 && leb sectorWords n && leb n diskWords
 -- "The disk is written from parts that start at a sector's first word and hold whole sectors, at least one": the disk, n words, is lent whole,
 -- and so many of its sectors are named, from sector `first` on.
 abbrev pub isDiskPart : ℕ → ℕ → ℕ → Bool
-isDiskPart n first sectors = eqb n diskWords && ltb 0 sectors && leb (first + sectors) diskSectors
+isDiskPart n first sectors = isDiskLength n && ltb 0 sectors && leb (first + sectors) diskSectors

@@ -2,8 +2,8 @@
 pub mod Choice
 pub mod ImageLaws
 pub mod DiskLaws
+pub mod AgeLaws
 pub mod LineLaws
-pub mod Irq2Laws
 pub mod SoundParts
 pub mod SoundLaws
 pub mod MemoryLaws

@@ -24,6 +24,7 @@ use Rattle.machine.specs.Execution.{fetched, registersOf, operandsOf, ad
 use Rattle.machine.specs.Cycle.{atFetch}
 use Rattle.machine.specs.Log.{changeLines, ioLines, linesAtFetch}
 use Rattle.machine.proofs.Choice.{either}
+use Rattle.machine.proofs.AgeLaws.{age-at-fetch}
 
 -- ---- H, L and D
 
@@ -81,17 +82,16 @@ module _ (c : ℕ) (young : c < 2 ^ 40) where
 
 -- ---- all lines of a cycle
 
--- Steps 1 and 2 keep the age, and R3 to R15.
-record KeepsAge (m s : Machine) : Type 0 where
-  age : s .core .age ≡ m .core .age
-  regs : s .regs ≡ m .regs
+-- Steps 1 and 2 keep R3 to R15.
+record KeepsRegisters (m s : Machine) : Type 0 where
+  same : s .regs ≡ m .regs
 
-age-at-fetch : (hit : Bool) (m : Machine) → KeepsAge m (atFetch hit m)
+registers-at-fetch : (hit : Bool) (m : Machine) → KeepsRegisters m (atFetch hit m)
 unfolding atFetch interrupted irq2Raised
-age-at-fetch hit m =
+registers-at-fetch hit m =
     let r = irq2Raised hit m in
-    let raised = either (KeepsAge m) hit (record { age = refl; regs = refl }) (record { age = refl; regs = refl }) in
-    either (KeepsAge m) (isAsked (r .io) && eqb (r .core .handler) 0) (record { age = raised .age; regs = raised .regs }) raised
+    let raised = either (KeepsRegisters m) hit (record { same = refl }) (record { same = refl }) in
+    either (KeepsRegisters m) (isAsked (r .io) && eqb (r .core .handler) 0) (record { same = raised .same }) raised
 
 -- "At most 231 bytes are logged per cycle."
 pub lines-at-most : (image : List ℕ) (hit : Bool) (m : Machine) → length (m .regs) ≡ 13 → m .core .age < 2 ^ 40 → length (linesAtFetch image (atFetch hit m)) ≤ 231
@@ -100,8 +100,7 @@ lines-at-most image hit m thirteen young =
     let s = atFetch hit m in
     let word = fetched image s in
     let f = fieldsOf word in
-    let kept = age-at-fetch hit m in
-    let io = length-io (s .core .age) (rw (kept .age) young) (operationOf (f .op)) (operandsOf f s) (s .io) in
+    let io = length-io (s .core .age) (rw (age-at-fetch hit m .same) young) (operationOf (f .op)) (operandsOf f s) (s .io) in
     let t = length-T (s .core .pc) word (registersOf f s) in
-    let size = ap length (kept .regs) in
+    let size = ap length (registers-at-fetch hit m .same) in
     rw length-append (omega arith)

@@ -1,13 +1,14 @@
 -- A cycle keeps the lengths of the data memory, the disk and the frame, and the range of what they hold. Assumes nothing.
-use Prim.Native.Nat.{ℕ, zero, suc, _+_, _*_, _%_, _^_, _<_}
+use Prim.Native.Nat.{ℕ, zero, suc, _*_, _%_, _^_, _<_}
 use mathlib.Core.Path.{_≡_, refl, _∙_}
 use mathlib.Core.Bool.{Bool, _&&_}
 use mathlib.Core.List.{List, [], _∷_}
-use native.Mathlib.Omega.{arith}
 use lib.Dec.{eqb, leb, ltb}
-use lib.ListN.{length, getD, set, take, drop, length-set}
-use lib.Seq.{sets, length-sets, getD-drop}
+use lib.ListN.{length, set, length-set}
+use lib.Seq.{sets, length-sets}
 use Rattle.text.specs.Place.{put}
+use Rattle.text.specs.Ranges.{Below}
+use Rattle.text.proofs.RangeLaws.{below-part}
 use Rattle.isa.specs.Word.{fieldsOf}
 use Rattle.isa.specs.Operations.{Operation, operationOf, calculate, branch, jal, lw, sw, reti, input, output, halt, unknown}
 use Rattle.isa.specs.Registers.{isListed, ioBits, diskcmd, diskstatus, diskbuffer, disksector, monitorcmd, monitoraddr, monitordata}
@@ -104,22 +105,9 @@ lengths-kept image hit m =
 
 -- ---- ranges
 
--- Each number of l is below b.
-abbrev Below : ℕ → List ℕ → Type 0
-Below b l = (n : ℕ) → getD l n 0 < b
-
 below-sets : (b : ℕ) (l : List ℕ) (i : ℕ) (xs : List ℕ) → Below b l → Below b xs → Below b (sets l i xs)
 below-sets b l i [] h hs = h
 below-sets b l i (x ∷ xs) h hs = below-sets b (set l i x) (suc i) xs (holds-after l i x (λ k v. v < b) h (hs zero)) (λ n. hs (suc n))
-
-below-take : (b k : ℕ) (l : List ℕ) → Below b l → Below b (take k l)
-below-take b zero l h n = let first : getD l 0 0 < b = h 0 in omega arith
-below-take b (suc k) [] h n = h n
-below-take b (suc k) (x ∷ xs) h zero = h zero
-below-take b (suc k) (x ∷ xs) h (suc n) = below-take b k xs (λ i. h (suc i)) n
-
-below-part : (b k j : ℕ) (l : List ℕ) → Below b l → Below b (take k (drop j l))
-below-part b k j l h = below-take b k (drop j l) (λ n. rw (getD-drop j l n 0) (h (j + n)))
 
 -- "The data memory is 4,096 words of 32 bits, the disk 16,384 such words .., the frame 65,536 bytes": each fits.
 pub record Fits (m : Machine) : Type 0 where

@@ -25,7 +25,7 @@ small-take most (suc n) (x ∷ l) h p zero = p 0
 small-take most (suc n) (x ∷ l) h p (suc k) = small-take most n l h (λ j. p (suc j)) k
 
 module _ (f : List ℕ) (h : fit widths f ≡ true) where
-  fields-42 : length f ≡ 42
+  pub fields-42 : length f ≡ 42
   unfolding widths ioBits
   fields-42 = fit-length widths f h
 

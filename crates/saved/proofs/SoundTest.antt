@@ -171,6 +171,14 @@ sound-lengths r e = let p = passed r e in (p .thirteen, p .all)
 pub sound-fits : (r : Record) → isSound r ≡ true → fit widths (fieldsOf r) ≡ true
 sound-fits r e = passed r e .fits
 
+-- A record whose fields do not fit does not pass.
+pub unfit-unsound : (r : Record) → fit widths (fieldsOf r) ≡ false → isSound r ≡ false
+unfit-unsound r unfit = go (isSound r) refl
+  where
+    go : (t : Bool) → isSound r ≡ t → isSound r ≡ false
+    go true e = absurd (false≢true (sym unfit ∙ sound-fits r e))
+    go false e = e
+
 -- A record that passes the test is sound.
 pub sound-yes : (r : Record) → isSound r ≡ true → Sound (r .core) (r .regs) (r .io)
 unfolding ioBits

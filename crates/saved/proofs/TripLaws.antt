@@ -11,7 +11,7 @@ use lib.Seq.{take-at, drop-at}
 use borrow.Author.Tests.{eqb-true, eq-eqb}
 use Rattle.text.specs.Questions.{accepted}
 use Rattle.text.proofs.QuestionLaws.{first-yes}
-use Rattle.bitpack.specs.Packed.{packed, bytesOf, numberOf}
+use Rattle.bitpack.specs.Packed.{packed, fit, bytesOf, numberOf}
 use Rattle.bitpack.proofs.PackLaws.{length-unpacked}
 use Rattle.bitpack.proofs.ByteLaws.{length-bytes, recoded, repacked}
 use Rattle.isa.specs.Registers.{ioBits}
@@ -20,6 +20,7 @@ use Rattle.saved.specs.Layout.{recordBytes, widths, fieldsOf, recordOf, 
 use Rattle.saved.specs.Sound.{isSound}
 use Rattle.saved.specs.Calls.{freshRecord, saveTold, saveBytes, loadTold, loadRecord}
 use Rattle.saved.proofs.SoundTest.{sound-lengths, packs}
+use Rattle.saved.proofs.FieldLaws.{fields-42, saved-fit}
 
 -- ---- fields and records
 
@@ -45,6 +46,10 @@ fields-again (a ∷ b ∷ c ∷ d ∷ l ∷ []) h e = absurd (omega arith)
 fields-again (a ∷ b ∷ c ∷ d ∷ l ∷ g ∷ vs) h e =
     ap (λ (n : ℕ). n ∷ b ∷ c ∷ d ∷ l ∷ g ∷ (take 13 vs ++ drop 13 vs)) (sym e)
     ∙ ap (λ (x : List ℕ). a ∷ b ∷ c ∷ d ∷ l ∷ g ∷ x) (take-append-drop 13 vs)
+
+-- The fields of a record that is read fit.
+pub read-fit : (b : List ℕ) → getD (savedFields b) 0 0 ≡ 1 → fit widths (fieldsOf (recordOf (savedFields b))) ≡ true
+read-fit b e = ap (λ (f : List ℕ). fit widths f) (fields-again (savedFields b) (fields-42 (savedFields b) (saved-fit b)) e) ∙ saved-fit b
 
 -- ---- the trips
 

@@ -6,14 +6,16 @@ pub const EDITION: u64 = 1;
 // How many bytes a saved record has.
 pub const BYTES: usize = 91;
 
-// The bits of each field: edition, status, flag, PC, age, left, R3 to R15, the I/O registers by number.
+// The bits of each field.
 pub const WIDTHS: [u8; 42] = [
+    // edition, status, flag, PC, age, left
     8,
     3,
     1,
     12,
     40,
     11,
+    // R3 to R15
     32,
     32,
     32,
@@ -27,26 +29,33 @@ pub const WIDTHS: [u8; 42] = [
     32,
     32,
     32,
+    // I/O 0 to 5: enables and statuses
     1,
     1,
     1,
     1,
     1,
     1,
+    // 6 irqhandler, 7 irqreturn
     12,
     12,
+    // 8 clks, 9 leds, 10 display7seg
     32,
     32,
     32,
+    // 11 timerenable, 12 timercurrent, 13 timermax
     1,
     32,
     32,
+    // 14 diskcmd, 15 disksector, 16 diskbuffer, 17 diskstatus
     2,
     7,
     12,
     1,
+    // 18 and 19: no registers
     0,
     0,
+    // 20 monitoraddr, 21 monitordata, 22 monitorcmd
     16,
     8,
     0,

@@ -5,7 +5,7 @@ use crate::fields::record_of;
 use crate::layout::BYTES;
 use crate::layout::EDITION;
 use crate::layout::WIDTHS;
-use crate::sound::is_sound;
+use crate::sound::is_possible;
 use machine::Core;
 use machine::Record;
 ghost use mathlib.Core.Path.{_≡_};
@@ -25,7 +25,7 @@ pub fn load(bytes: &[u8]) -> Loaded
         return refused(LoadAnswer::OtherEdition);
     }
     let state = record_of(f);
-    if !is_sound(state) {
+    if !is_possible(state) {
         return refused(LoadAnswer::Unsound);
     }
     Loaded {

@@ -3,7 +3,9 @@ use crate::Saved;
 use crate::fields::fields;
 use crate::layout::BYTES;
 use crate::layout::WIDTHS;
-use crate::sound::is_sound;
+use crate::sound::is_possible;
+use bitpack::all_fit;
+use bitpack::pack;
 use machine::Record;
 ghost use mathlib.Core.Path.{_≡_};
 ghost use Rattle.saved.specs.Answers.{savedTold};
@@ -16,10 +18,14 @@ pub fn save(r: Record, bytes: &mut [u8]) -> Saved
     if bytes.len() != BYTES {
         return Saved::WrongLength;
     }
-    if !is_sound(r) {
+    let widths = WIDTHS;
+    let f = fields(r);
+    if !all_fit(&widths, &f) {
         return Saved::Unsound;
     }
-    let f = fields(r);
-    bitpack::pack(&WIDTHS, &f, bytes);
+    if !is_possible(r) {
+        return Saved::Unsound;
+    }
+    pack(&widths, &f, bytes);
     Saved::Done
 }

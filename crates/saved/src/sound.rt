@@ -6,9 +6,11 @@ use isa::io::DISKCMD;
 use isa::io::DISKSTATUS;
 use machine::Record;
 ghost use mathlib.Core.Path.{_≡_};
-ghost use mathlib.Core.Bool.{_&&_, _||_};
+ghost use mathlib.Core.Bool.{true, _&&_, _||_};
 ghost use lib.Dec.{eqb, ltb};
+ghost use Rattle.bitpack.specs.Packed.{fit};
 ghost use Rattle.machine.specs.Execution.{isReadOrWrite};
+ghost use Rattle.saved.specs.Layout.{widths, fieldsOf};
 ghost use Rattle.saved.specs.Sound.{isSound, same};
 
 // The largest status.
@@ -21,11 +23,19 @@ const MOST_LEFT: u32 = 1024;
 pub fn is_sound(r: Record) -> bool
     ensures { λ b. ⌜ b ≡ isSound r ⌝ }
 {
-    let io = r.io;
     let f = fields(r);
     if !all_fit(&WIDTHS, &f) {
         return false;
     }
+    is_possible(r)
+}
+
+// Whether a record whose fields fit is sound.
+pub fn is_possible(r: Record) -> bool
+    requires { ⌜ fit widths (fieldsOf r) ≡ true ⌝ }
+    ensures { λ b. ⌜ b ≡ isSound r ⌝ }
+{
+    let io = r.io;
     if MOST_STATUS < r.core.status {
         return false;
     }

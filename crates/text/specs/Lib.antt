@@ -4,4 +4,5 @@ pub mod Questions
 pub mod Numerals
 pub mod Lines
 pub mod Place
+pub mod Ranges
 pub mod Examples

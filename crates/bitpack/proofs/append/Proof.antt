@@ -8,7 +8,7 @@ shl-result : tie.Need-shl-result
 shl-result c = search needs
 
 returns : tie.Need-returns
-returns c = shifted-in (c .args .a) (c .args .k) (c .args .v) (c .pre .1 .0) (c .pre .1 .1)
+returns c = shifted-in (c .args .a) (c .args .k) (c .args .v) (c .pre .0) (c .pre .1)
 
 pub append-spec : {M : Type 1} → statement M
 append-spec = tie.close (tie.spec shl-result returns)

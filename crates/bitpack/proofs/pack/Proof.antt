@@ -1,18 +1,19 @@
 -- `bitpack::pack` meets its contract.
-use Prim.Native.Nat.{_+_, _-_, _≤_, _<_}
-use mathlib.Core.Path.{_≡_, sym, _∙_}
+use Prim.Native.Nat.{ℕ, _+_, _-_, _%_, _^_, _≤_, _<_}
+use mathlib.Core.Path.{_≡_, sym, ap, _∙_}
 use native.Mathlib.Omega.{arith}
 use lib.ListN.{length, getD}
 use borrow.Author.Needs.{needs}
 use Rattle.bitpack.specs.Packed.{packed, bytesOf}
+use Rattle.bitpack.proofs.BitLaws.{shifted-low, top-of, rest-of}
 use Rattle.bitpack.proofs.PackLaws.{fit-length, fit-at, narrow-at, packed-at}
 use Rattle.bitpack.proofs.ByteLaws.{eights, length-eights, eights-at, total-eights}
-use Rattle.bitpack.proofs.StreamLaws.{Loop, begun, has-more, pull-lt, pulled, field-lt, emitted, finished}
+use Rattle.bitpack.proofs.StreamLaws.{Loop, begun, has-more, pulled, emitted, finished}
 use Rattle.bitpack.proofs.pack.Statement.{statement}
 use Rattle.bitpack.proofs.pack.Tie as tie
 
 abbrev Inv-loop : tie.InvT-loop
-Inv-loop widths values out₀ acc₀ have₀ i₀ n₀ out acc have i n = Loop (packed widths values) widths (eights (length out₀)) out i n acc have
+Inv-loop widths values out₀ acc₀ have₀ i₀ n₀ out acc have i n = Loop (packed widths values) widths (eights (length out₀)) out i n (acc % 2 ^ have) have
 
 abbrev μ-loop : tie.MeasureT-loop
 μ-loop widths values out₀ acc₀ have₀ i₀ n₀ out acc have i n = (length widths - i) + (length out₀ - n)
@@ -45,23 +46,27 @@ width-small c =
     let s = c .before .before .before .before .before .before in
     narrow-at 40 (s .args .widths .now) (c .before .before .loop .i) (s .pre .small)
 
+value-small : (c : tie.Else1 Inv-loop μ-loop)
+    → getD (c .before .before .before .before .before .before .args .values .now) (c .before .before .loop .i) 0
+    < 2 ^ getD (c .before .before .before .before .before .before .args .widths .now) (c .before .before .loop .i) 0
+value-small c =
+    let s = c .before .before .before .before .before .before in
+    fit-at (s .args .widths .now) (s .args .values .now) (c .before .before .loop .i) (s .pre .fitting)
+
 loop-holds : tie.Need-loop-holds Inv-loop μ-loop
 loop-holds c =
     let s = c .before .before .before in
     let k = length (s .args .out .now) in
     begun _ _ _ _ (total-eights k ∙ sym (s .pre .whole)) (sym (length-eights k))
 
-shr-out : tie.Need-shr-out Inv-loop μ-loop
-shr-out c = let h = c .before .before .loop .inv .small in omega arith
+shr-low-byte : tie.Need-shr-low-byte Inv-loop μ-loop
+shr-low-byte c = let h = c .before .before .loop .inv .small in omega arith
 
-cast-out : tie.Need-cast-out Inv-loop μ-loop
-cast-out c = record { fits = field-lt (c .before .before .loop .inv) 8 (sym (is-eight (c .before))) (in-eights (c .before)) (c .if1 .taken) }
+low-byte-requires : tie.Need-low-byte-requires Inv-loop μ-loop
+low-byte-requires c κs = search needs
 
 slice-write-out : tie.Need-slice-write-out Inv-loop μ-loop
-slice-write-out c = c .before .loop-test .taken
-
-low-requires : tie.Need-low-requires Inv-loop μ-loop
-low-requires c κs = let h = c .before .before .loop .inv .small in omega arith
+slice-write-out c = c .before .before .loop-test .taken
 
 add-n : tie.Need-add-n Inv-loop μ-loop
 add-n c = let h = out-left (c .before .before) in search needs
@@ -70,7 +75,10 @@ loop-less : tie.Need-loop-less Inv-loop μ-loop
 loop-less c = let h = out-left (c .before .before) in omega arith
 
 loop-again : tie.Need-loop-again Inv-loop μ-loop
-loop-again c = emitted (c .before .before .before .loop .inv) 8 (sym (is-eight (c .before .before))) (in-eights (c .before .before)) (c .before .if1 .taken) _ (c .low .ensures)
+loop-again c =
+    let l = c .before .before .before .loop in
+    let enough = c .before .if1 .taken in
+    rw (c .low-byte .ensures ∙ top-of (l .acc) (l .have) 8 enough) (emitted (l .inv) 8 (sym (is-eight (c .before .before))) (in-eights (c .before .before)) enough _ (rest-of (l .acc) (l .have) 8 enough))
 
 shared-slice-read-wide : tie.Need-shared-slice-read-wide Inv-loop μ-loop
 shared-slice-read-wide c = more (c .before)
@@ -86,12 +94,9 @@ shared-slice-read-append c = value-there (c .before .before .before)
 
 append-requires : tie.Need-append-requires Inv-loop μ-loop
 append-requires c κs =
-    let s = c .before .before .before .before .before .before .before .before .before in
-    let i = c .before .before .before .before .before .loop .i in
     let w = c .before .wide .ensures in
     let b = width-small (c .before .before .before) in
-    let f = c .before .before .before .if1 .left in
-    (omega arith, (pull-lt (c .before .before .before .before .before .loop .inv) (c .before .wide .result) (omega arith), rw w (fit-at (s .args .widths .now) (s .args .values .now) i (s .pre .fitting))))
+    (omega arith, rw w (value-small (c .before .before .before)))
 
 add-have : tie.Need-add-have Inv-loop μ-loop
 add-have c =
@@ -109,11 +114,13 @@ loop-less-2 c = let h = more (c .before .before .before .before) in omega arith
 loop-again-2 : tie.Need-loop-again-2 Inv-loop μ-loop
 loop-again-2 c =
     let s = c .before .before .before .before .before .before .before .before .before .before in
-    let i = c .before .before .before .before .before .before .loop .i in
+    let l = c .before .before .before .before .before .before .loop in
     let w = c .before .before .wide .ensures in
     let b = width-small (c .before .before .before .before) in
     let f = c .before .before .before .before .if1 .left in
-    pulled (c .before .before .before .before .before .before .loop .inv) _ _ _ w (packed-at (s .args .widths .now) (s .args .values .now) i (s .pre .fitting)) (c .append .ensures) (more (c .before .before .before .before)) (omega arith)
+    let room : l .have + c .before .before .wide .result < 64 = omega arith in
+    let held = ap (λ (x : ℕ). x % 2 ^ (l .have + c .before .before .wide .result)) (c .append .ensures) ∙ shifted-low (l .acc) (l .have) (c .before .before .wide .result) _ (omega arith) (rw w (value-small (c .before .before .before .before))) in
+    pulled (l .inv) _ _ _ w (packed-at (s .args .widths .now) (s .args .values .now) (l .i) (s .pre .fitting)) held (more (c .before .before .before .before)) room
 
 same-length : tie.Need-same-length Inv-loop μ-loop
 same-length c = c .before .loop .inv .room ∙ length-eights (length (c .before .before .before .before .before .args .out .now))
@@ -129,10 +136,9 @@ pack-spec =
     Inv-loop
     μ-loop
     loop-holds
-    shr-out
-    cast-out
+    shr-low-byte
+    low-byte-requires
     slice-write-out
-    low-requires
     add-n
     loop-less
     loop-again

@@ -2,6 +2,7 @@
 use Prim.Native.Nat.{_+_, _-_, _<_}
 use mathlib.Core.Path.{_≡_, sym, _∙_}
 use mathlib.Core.Bool.{true}
+use native.Mathlib.Nat.{mod-eq-of-lt}
 use native.Mathlib.Omega.{arith}
 use lib.ListN.{length}
 use lib.Pow.{areBytes}
@@ -22,6 +23,9 @@ abbrev μ-loop : tie.MeasureT-loop
 -- The bytes lent are bytes.
 are-bytes : (c : tie.After-shared-slice-known2 Inv-loop μ-loop) → areBytes (c .before .before .args .bytes .now) ≡ true
 are-bytes c = all-bytes (c .before .before .args .bytes .now) (λ i. c .shared-slice-known2 .given i .fits)
+
+byte-small : (c : tie.After-wide2 Inv-loop μ-loop) → c .wide2 .result < 256
+byte-small c = rw (c .wide2 .ensures) (c .before .before .before .before .before .before .before .before .shared-slice-known2 .given (c .before .before .before .before .before .before .loop .i) .fits)
 
 -- A width is left to come out, and it has a place.
 out-left : (c : tie.In-loop Inv-loop μ-loop) → c .before .loop .n < length (c .before .before .before .before .before .args .widths .now)
@@ -82,9 +86,7 @@ wide-requires-2 : tie.Need-wide-requires-2 Inv-loop μ-loop
 wide-requires-2 c κs = search needs
 
 append-requires : tie.Need-append-requires Inv-loop μ-loop
-append-requires c κs =
-    let f = few (c .before .before) in
-    (omega arith, (pull-lt (c .before .before .before .before .before .before .loop .inv) 8 (omega arith), rw (c .wide2 .ensures) (c .before .before .before .before .before .before .before .before .shared-slice-known2 .given (c .before .before .before .before .before .before .loop .i) .fits)))
+append-requires c κs = (omega arith, byte-small c)
 
 add-have : tie.Need-add-have Inv-loop μ-loop
 add-have c = let f = few (c .before .before .before) in search needs
@@ -100,7 +102,8 @@ loop-again-2 c =
     let k = length (c .before .before .before .before .before .before .before .before .before .before .before .args .bytes .now) in
     let f = few (c .before .before .before) in
     let v = c .before .wide2 .ensures ∙ byte-at (c .before .before .before .before .before .before .before .before .before .before .before .args .bytes .now) (c .before .before .before .before .before .before .before .loop .i) (are-bytes (c .before .before .before .before .before .before .before .before .before)) in
-    pulled (c .before .before .before .before .before .before .before .loop .inv) 8 _ _ (sym (eights-at k (c .before .before .before .before .before .before .before .loop .i) (more (c .before .before .before)))) v (c .append .ensures) (in-eights (c .before .before .before)) (omega arith)
+    let all = mod-eq-of-lt (pull-lt (c .before .before .before .before .before .before .before .loop .inv) 8 (c .before .wide2 .result) (omega arith) (byte-small (c .before))) in
+    pulled (c .before .before .before .before .before .before .before .loop .inv) 8 _ _ (sym (eights-at k (c .before .before .before .before .before .before .before .loop .i) (more (c .before .before .before)))) v (c .append .ensures ∙ all) (in-eights (c .before .before .before)) (omega arith)
 
 same-length : tie.Need-same-length Inv-loop μ-loop
 same-length c = c .before .loop .inv .room ∙ sym (c .before .before .before .before .before .pre .room)

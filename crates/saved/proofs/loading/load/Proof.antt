@@ -13,6 +13,7 @@ use Rattle.machine.specs.declared.Record.{Record}
 use Rattle.saved.specs.Layout.{widths, recordOf, savedFields}
 use Rattle.saved.specs.Sound.{isSound}
 use Rattle.saved.proofs.FieldLaws.{saved-fit}
+use Rattle.saved.proofs.TripLaws.{read-fit}
 use Rattle.saved.proofs.AnswerLaws.{load-wrong-length, load-edition, load-unsound, load-loaded}
 use Rattle.saved.proofs.loading.load.Statement.{statement}
 use Rattle.saved.proofs.loading.load.Tie as tie
@@ -25,8 +26,8 @@ fields-are c = c .unpack .ensures
 record-is : (c : tie.After-record-of) → c .record-of .result ≡ recordOf (savedFields (c .before .before .before .before .before .before .before .before .args .bytes .now))
 record-is c = c .record-of .ensures ∙ ap (λ (f : List ℕ). recordOf f) (fields-are (c .before .before .before))
 
-sound-is : (c : tie.After-is-sound) → isSound (recordOf (savedFields (c .before .before .before .before .before .before .before .before .before .args .bytes .now))) ≡ c .is-sound .result
-sound-is c = sym (c .is-sound .ensures ∙ ap (λ (r : Record). isSound r) (record-is (c .before)))
+sound-is : (c : tie.After-is-possible) → isSound (recordOf (savedFields (c .before .before .before .before .before .before .before .before .before .args .bytes .now))) ≡ c .is-possible .result
+sound-is c = sym (c .is-possible .ensures ∙ ap (λ (r : Record). isSound r) (record-is (c .before)))
 
 length-is : (c : tie.Else1) → eqb (length (c .before .before .args .bytes .now)) 91 ≡ true
 length-is c = eq-eqb _ 91 (c .if1 .left)
@@ -63,20 +64,20 @@ returns-2 c =
 record-of-requires : tie.Need-record-of-requires
 record-of-requires c κs = ap (λ (f : List ℕ). fit widths f) (fields-are (c .before .before)) ∙ saved-fit (c .before .before .before .before .before .before .before .args .bytes .now)
 
-is-sound-requires : tie.Need-is-sound-requires
-is-sound-requires c κs = search needs
+is-possible-requires : tie.Need-is-possible-requires
+is-possible-requires c κs = rw (record-is c) (read-fit (c .before .before .before .before .before .before .before .before .args .bytes .now) (rw (← fields-are (c .before .before .before)) (c .before .if2 .left)))
 
 refused-requires-3 : tie.Need-refused-requires-3
 refused-requires-3 c κs = search needs
 
 returns-3 : tie.Need-returns-3
 returns-3 c =
-    let no = sound-is (c .before .before) ∙ not-true (c .before .before .is-sound .result) (c .before .if3 .taken) in
+    let no = sound-is (c .before .before) ∙ not-true (c .before .before .is-possible .result) (c .before .if3 .taken) in
     load-unsound (c .before .before .before .before .before .before .before .before .before .before .before .args .bytes .now) (length-is (c .before .before .before .before .before .before .before .before .before)) (edition-is (c .before .before .before .before)) no _ (c .refused3 .ensures)
 
 returns-4 : tie.Need-returns-4
 returns-4 c =
-    let yes = sound-is (c .before) ∙ not-false (c .before .is-sound .result) (c .if3 .left) in
+    let yes = sound-is (c .before) ∙ not-false (c .before .is-possible .result) (c .if3 .left) in
     load-loaded (c .before .before .before .before .before .before .before .before .before .before .args .bytes .now) (length-is (c .before .before .before .before .before .before .before .before)) (edition-is (c .before .before .before)) yes _ (record-is (c .before .before))
 
 pub load-spec : {M : Type 1} → statement M
@@ -92,7 +93,7 @@ load-spec =
     refused-requires-2
     returns-2
     record-of-requires
-    is-sound-requires
+    is-possible-requires
     refused-requires-3
     returns-3
     returns-4)

@@ -1,0 +1,322 @@
+// The proved saving and reading of a record beside a plain packer in C, from document 01 alone.
+//
+// Both save and read random records, sound and unsound, and random bytes; the bytes and the answers must be equal. Then each
+// is timed, with its test of soundness. bench/saved builds and runs this file:
+//
+//     bench/saved            runs of 100,000 saves and of as many readings
+//     bench/saved 5000       runs of so many
+//
+// The C packer goes through a table of widths with an accumulator.
+#include <stdbool.h>
+#include <stdint.h>
+#include <stdio.h>
+#include <stdlib.h>
+#include <string.h>
+#include <time.h>
+
+enum { BYTES = 91, ROOM = BYTES + 1, REGISTERS = 13, IO = 23, RUNS = 200, RECORDS = 400000 };
+
+// The proved ones. Saves a record at its age and at each after it below `to`, and returns how many saves were accepted.
+uint64_t simp_bench_saves(uint32_t status, uint32_t handler, uint32_t pc, uint64_t age, uint32_t left, const uint32_t *regs,
+                          const uint32_t *io, uint64_t to, uint8_t *bytes, size_t bytes_length);
+// Reads bytes n times, saves the record that was read last to `out`, and returns how many readings were accepted.
+uint64_t simp_bench_loads(const uint8_t *bytes, size_t bytes_length, uint64_t n, uint8_t *out, size_t out_length);
+
+// ---- the packer in C
+
+struct record {
+    uint32_t status, handler, pc, left;
+    uint64_t age;
+    uint32_t regs[REGISTERS], io[IO];
+};
+
+enum { EDITION, STATUS, HANDLER, PC, AGE, LEFT, REGS, IOS = REGS + REGISTERS, FIELDS = IOS + IO };
+enum { DISKCMD = 14, DISKSTATUS = 17 };
+
+// The fields' bits: edition, status, flag, PC, age, left, R3 to R15, the I/O registers. 18, 19 and 22 hold 0 and have none.
+static const uint8_t widths[FIELDS] = {
+    8, 3, 1, 12, 40, 11,
+    32, 32, 32, 32, 32, 32, 32, 32, 32, 32, 32, 32, 32,
+    1, 1, 1, 1, 1, 1, 12, 12, 32, 32, 32, 1, 32, 32, 2, 7, 12, 1, 0, 0, 16, 8, 0,
+};
+
+static inline bool is_sound(const uint64_t *f)
+{
+    for (int i = 0; i < FIELDS; i++)
+        if (f[i] >> widths[i])
+            return false;
+    uint64_t command = f[IOS + DISKCMD];
+    bool busy = f[LEFT] > 0;
+    return f[STATUS] <= 5 && f[LEFT] <= 1024 && busy == (f[IOS + DISKSTATUS] == 1) && busy == (command == 1 || command == 2) && command != 3;
+}
+
+static inline bool c_save(const struct record *r, uint8_t *bytes, size_t length)
+{
+    if (length != BYTES)
+        return false;
+    uint64_t f[FIELDS] = { 1, r->status, r->handler, r->pc, r->age, r->left };
+    for (int i = 0; i < REGISTERS; i++)
+        f[REGS + i] = r->regs[i];
+    for (int i = 0; i < IO; i++)
+        f[IOS + i] = r->io[i];
+    if (!is_sound(f))
+        return false;
+    uint64_t held = 0;
+    unsigned count = 0;
+    for (int i = 0; i < FIELDS; i++) {
+        held = held << widths[i] | f[i];
+        count += widths[i];
+        while (count >= 8) {
+            count -= 8;
+            *bytes++ = held >> count;
+        }
+    }
+    return true;
+}
+
+// The fresh record, with a no.
+static inline bool refuse(struct record *r)
+{
+    memset(r, 0, sizeof *r);
+    return false;
+}
+
+static inline bool c_load(const uint8_t *bytes, size_t length, struct record *r)
+{
+    if (length != BYTES)
+        return refuse(r);
+    uint64_t f[FIELDS];
+    uint64_t held = 0;
+    unsigned count = 0;
+    for (int i = 0; i < FIELDS; i++) {
+        while (count < widths[i]) {
+            held = held << 8 | *bytes++;
+            count += 8;
+        }
+        count -= widths[i];
+        f[i] = held >> count & (((uint64_t)1 << widths[i]) - 1);
+    }
+    if (f[EDITION] != 1 || !is_sound(f))
+        return refuse(r);
+    r->status = f[STATUS];
+    r->handler = f[HANDLER];
+    r->pc = f[PC];
+    r->age = f[AGE];
+    r->left = f[LEFT];
+    for (int i = 0; i < REGISTERS; i++)
+        r->regs[i] = f[REGS + i];
+    for (int i = 0; i < IO; i++)
+        r->io[i] = f[IOS + i];
+    return true;
+}
+
+// The same as the proved functions.
+__attribute__((noinline)) uint64_t c_saves(uint32_t status, uint32_t handler, uint32_t pc, uint64_t age, uint32_t left, const uint32_t *regs,
+                                           const uint32_t *io, uint64_t to, uint8_t *bytes, size_t bytes_length)
+{
+    struct record r = { .status = status, .handler = handler, .pc = pc, .left = left, .age = age };
+    memcpy(r.regs, regs, sizeof r.regs);
+    memcpy(r.io, io, sizeof r.io);
+    uint64_t done = 0;
+    for (; r.age < to; r.age++)
+        done += c_save(&r, bytes, bytes_length);
+    return done;
+}
+
+__attribute__((noinline)) uint64_t c_loads(const uint8_t *bytes, size_t bytes_length, uint64_t n, uint8_t *out, size_t out_length)
+{
+    struct record r = { 0 };
+    uint64_t done = 0;
+    for (uint64_t i = 0; i < n; i++)
+        done += c_load(bytes, bytes_length, &r);
+    c_save(&r, out, out_length);
+    return done;
+}
+
+// ---- random records
+
+static uint64_t seed = 1;
+
+static uint64_t draw(void)
+{
+    seed ^= seed << 13;
+    seed ^= seed >> 7;
+    seed ^= seed << 17;
+    return seed;
+}
+
+static uint64_t random_below(uint64_t n)
+{
+    return (draw() >> 8) % n;
+}
+
+// At most `width` bits, often few.
+static uint64_t random_bits(unsigned width)
+{
+    return width == 0 ? 0 : draw() >> (64 - width) >> (random_below(2) ? random_below(width) : 0);
+}
+
+static void random_sound(struct record *r)
+{
+    bool busy = random_below(2);
+    r->status = random_below(6);
+    r->handler = random_bits(1);
+    r->pc = random_bits(12);
+    r->age = random_bits(40);
+    r->left = busy ? 1 + random_below(1024) : 0;
+    for (int i = 0; i < REGISTERS; i++)
+        r->regs[i] = random_bits(32);
+    for (int i = 0; i < IO; i++)
+        r->io[i] = random_bits(widths[IOS + i]);
+    r->io[DISKCMD] = busy ? 1 + random_below(2) : 0;
+    r->io[DISKSTATUS] = busy;
+}
+
+// Changes one thing, mostly to what is not sound.
+static void spoil(struct record *r)
+{
+    int i = random_below(IO);
+    switch (random_below(9)) {
+    case 0: r->status = 4 + random_below(5); break;
+    case 1: r->handler ^= 1u << random_below(32); break;
+    case 2: r->pc ^= 1u << random_below(32); break;
+    case 3: r->age ^= (uint64_t)1 << random_below(64); break;
+    case 4: r->left = 1020 + random_below(10); break;
+    case 5: r->left ^= 1u << random_below(32); break;
+    case 6: r->io[DISKCMD] = random_below(5); break;
+    case 7: r->io[DISKSTATUS] = random_below(3); break;
+    default: r->io[i] ^= 1u << random_below(32);
+    }
+}
+
+// ---- both side by side
+
+typedef uint64_t saver(uint32_t, uint32_t, uint32_t, uint64_t, uint32_t, const uint32_t *, const uint32_t *, uint64_t, uint8_t *, size_t);
+typedef uint64_t loader(const uint8_t *, size_t, uint64_t, uint8_t *, size_t);
+
+static uint64_t save_with(saver *f, const struct record *r, uint64_t n, uint8_t *bytes, size_t length)
+{
+    return f(r->status, r->handler, r->pc, r->age, r->left, r->regs, r->io, r->age + n, bytes, length);
+}
+
+static bool differ(const char *what, uint64_t number)
+{
+    printf("%s of random record %llu: proved and C DIFFER\n", what, (unsigned long long)number);
+    return false;
+}
+
+// Other bytes for both sides.
+static void fill(uint8_t *a, uint8_t *b)
+{
+    for (int i = 0; i < ROOM; i++)
+        a[i] = b[i] = draw() >> 8;
+}
+
+// Saves a random record, every other one spoiled; leaves the bytes.
+static bool compare_saving(uint64_t number, size_t length, uint8_t *bytes, uint64_t *saved)
+{
+    struct record r;
+    uint8_t a[ROOM];
+    random_sound(&r);
+    if (number % 2)
+        spoil(&r);
+    fill(a, bytes);
+    uint64_t done = save_with(c_saves, &r, 1, bytes, length);
+    *saved += done;
+    return save_with(simp_bench_saves, &r, 1, a, length) == done && !memcmp(a, bytes, ROOM);
+}
+
+// Reads bytes: of four, two as they were saved, one with a bit changed, one random behind the edition.
+static bool compare_reading(uint64_t number, size_t length, uint8_t *bytes, uint64_t *read)
+{
+    uint8_t a[ROOM], b[ROOM];
+    fill(a, b);
+    if (number % 4 == 2)
+        bytes[random_below(BYTES)] ^= 1u << random_below(8);
+    if (number % 4 == 3) {
+        memcpy(bytes, a, ROOM);
+        bytes[0] = 1;
+    }
+    uint64_t done = c_loads(bytes, length, 1, b, BYTES);
+    *read += done;
+    return simp_bench_loads(bytes, length, 1, a, BYTES) == done && !memcmp(a, b, ROOM);
+}
+
+static bool compare_random(void)
+{
+    uint64_t saved = 0, read = 0;
+    for (uint64_t k = 0; k < RECORDS; k++) {
+        // Some lengths are one too few or one too many.
+        size_t length = random_below(50) ? BYTES : BYTES - 1 + random_below(3);
+        uint8_t bytes[ROOM];
+        if (!compare_saving(k, length, bytes, &saved))
+            return differ("saving", k);
+        if (!compare_reading(k, length, bytes, &read))
+            return differ("reading", k);
+    }
+    printf("%d random records, bytes and answers equal: %llu saved, %llu refused\n", RECORDS, (unsigned long long)saved, (unsigned long long)(RECORDS - saved));
+    printf("%d times random bytes, bytes and answers equal: %llu read, %llu refused\n", RECORDS, (unsigned long long)read, (unsigned long long)(RECORDS - read));
+    return true;
+}
+
+static double now(void)
+{
+    struct timespec t;
+    clock_gettime(CLOCK_PROCESS_CPUTIME_ID, &t);
+    return t.tv_sec * 1e9 + t.tv_nsec;
+}
+
+static double time_saves(saver *f, const struct record *r, uint64_t n, uint8_t *bytes)
+{
+    double from = now();
+    if (save_with(f, r, n, bytes, BYTES) != n)
+        printf("a save was refused\n");
+    return now() - from;
+}
+
+static double time_loads(loader *f, const uint8_t *bytes, uint64_t n, uint8_t *out)
+{
+    double from = now();
+    if (f(bytes, BYTES, n, out, BYTES) != n)
+        printf("a reading was refused\n");
+    return now() - from;
+}
+
+static double least(double a, double b)
+{
+    return a < b ? a : b;
+}
+
+static void print_row(const char *what, double proved, double plain, uint64_t n, bool same)
+{
+    printf("%-8s %8.2f %8.2f %8.2f  %s\n", what, proved / n, plain / n, proved / plain, same ? "equal" : "DIFFER");
+}
+
+int main(int argc, char **argv)
+{
+    uint64_t n = argc > 1 ? strtoull(argv[1], 0, 10) : 100000;
+    if (n == 0) {
+        fprintf(stderr, "usage: saved [TURNS]\n");
+        return 2;
+    }
+    if (!compare_random())
+        return 1;
+
+    struct record r;
+    random_sound(&r);
+    r.age = 1000000;
+    uint8_t a[BYTES] = { 0 }, b[BYTES] = { 0 }, c[BYTES] = { 0 }, d[BYTES] = { 0 };
+    double saves = 1e300, c_save_time = 1e300, loads = 1e300, c_load_time = 1e300;
+    for (int i = 0; i < RUNS; i++) {
+        saves = least(saves, time_saves(simp_bench_saves, &r, n, a));
+        c_save_time = least(c_save_time, time_saves(c_saves, &r, n, b));
+        loads = least(loads, time_loads(simp_bench_loads, a, n, c));
+        c_load_time = least(c_load_time, time_loads(c_loads, b, n, d));
+    }
+    bool same = !memcmp(a, b, BYTES), back = !memcmp(a, c, BYTES) && !memcmp(b, d, BYTES);
+    printf("%llu turns a run, ns a turn, the best of %d runs\n", (unsigned long long)n, RUNS);
+    printf("%-8s %8s %8s %8s  %s\n", "", "proved", "C", "ratio", "bytes");
+    print_row("save", saves, c_save_time, n, same);
+    print_row("load", loads, c_load_time, n, back);
+    return same && back ? 0 : 1;
+}

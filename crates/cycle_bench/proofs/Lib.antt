@@ -1,2 +1,0 @@
--- Laws of a loop of cycles.
-pub mod TurnLaws

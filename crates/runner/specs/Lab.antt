@@ -1,0 +1,192 @@
+-- This lab, as demand 3 sees it (`claim`): its machine, what a run is asked, and what a return trip carries.
+use Prim.Native.Nat.{ℕ, _+_, _*_, _^_, _≤_, _<_}
+use mathlib.Core.Path.{_≡_}
+use mathlib.Core.Bool.{Bool, not, _&&_}
+use mathlib.Core.List.{List, [], _∷_}
+use lib.ListN.{length}
+use Rattle.text.specs.Questions.{Question, Told}
+use Rattle.text.specs.Place.{put}
+use Rattle.text.specs.Ranges.{Below}
+use Rattle.text.specs.Lines.{lines}
+use Rattle.files.specs.Sizes.{imageWords, dataWords, diskWords, frameBytes, sectorWords, diskSectors, imageDigits, wordDigits, frameDigits, isImageLength, isDataLength, isDiskLength, isFrameLength, isPartLength, isDiskPart}
+use Rattle.files.specs.MemoryFile.{low48, fileText, fileWords, sectorsOf}
+use Rattle.files.specs.MemoryFile.{readTold as fileReads, writeTold as fileWrites}
+use Rattle.files.specs.Irq2File.{rising}
+use Rattle.machine.specs.declared.Record.{Record}
+use Rattle.machine.specs.State.{Machine, freshMachine, withMemory, withDisk, withFrame}
+use Rattle.machine.specs.Execution.{isFree}
+use Rattle.machine.specs.Cycle.{cycle, acceptsCommand, isStopped, isAtLimit}
+use Rattle.machine.specs.Log.{cycleLines}
+use Rattle.saved.specs.Layout.{recordBytes, savedBytes}
+use Rattle.saved.specs.Sound.{isSound}
+use Rattle.saved.specs.Calls.{saveTold, loadTold, loadRecord}
+use Rattle.claim.specs.Plain.{Machine as AnyMachine}
+use Rattle.claim.specs.Calls.{World, Lab}
+
+-- What no cycle changes: the image by its low 48 bits ("bits above 47 are not read"), and the irq2 list.
+pub record Code : Type 0 where
+  pub image : List ℕ
+  pub irq2 : List ℕ
+
+abbrev pub codeOf : List ℕ → List ℕ → Code
+codeOf image irq2 = record { image = low48 image; irq2 = irq2 }
+
+-- The plain machine.
+abbrev pub simp : AnyMachine
+simp =
+    record {
+      Code = Code;
+      State = Machine;
+      cycle = λ code m. cycle (code .image) (code .irq2) m;
+      lines = λ code m. cycleLines (code .image) (code .irq2) m;
+      isStopped = isStopped;
+      isAtLimit = isAtLimit;
+    }
+
+-- What stands between two calls.
+abbrev pub Standing : Type 0
+Standing = World (List ℕ) Machine
+
+-- The record of a machine, and the machine of a record and memories.
+abbrev pub recordIn : Machine → Record
+recordIn m = record { core = m .core; regs = m .regs; io = m .io }
+
+abbrev pub machineOf : Record → List ℕ → List ℕ → List ℕ → Machine
+machineOf r memory disk frame = record { core = r .core; regs = r .regs; io = r .io; memory = memory; disk = disk; frame = frame }
+
+abbrev pub standingOf : List ℕ → Record → List ℕ → List ℕ → List ℕ → Standing
+standingOf image r memory disk frame = record { image = image; state = machineOf r memory disk frame }
+
+-- The lengths of document 01: 4,096 words of image and of data, 16,384 of disk, 65,536 bytes of frame.
+abbrev pub areLengths : Standing → Bool
+areLengths w =
+    isImageLength (length (w .image))
+    && isDataLength (length (w .state .memory))
+    && isDiskLength (length (w .state .disk))
+    && isFrameLength (length (w .state .frame))
+
+-- "are the lent lengths those above (..)? 1." "Run: irq2 list strictly rising? 12. Record sound? 13."
+abbrev pub runQuestions : List ℕ → Standing → List Question
+runQuestions irq2 w = (1, areLengths w) ∷ (12, rising irq2) ∷ (13, isSound (recordIn (w .state))) ∷ []
+
+-- "It starts from the fresh record, any data memory, disk and frame, one image": memories of document 01's lengths, whose words have 32 bits (the
+-- frame's 8).
+pub record Fresh (w : Standing) : Type 0 where
+  pub record-is : w .state ≡ freshMachine (w .state .memory) (w .state .disk) (w .state .frame)
+  pub image : length (w .image) ≡ imageWords
+  pub data-words : length (w .state .memory) ≡ dataWords
+  pub disk-words : length (w .state .disk) ≡ diskWords
+  pub frame-bytes : length (w .state .frame) ≡ frameBytes
+  pub memory-fits : Below (2 ^ 32) (w .state .memory)
+  pub disk-fits : Below (2 ^ 32) (w .state .disk)
+  pub frame-fits : Below (2 ^ 8) (w .state .frame)
+
+-- ---- return trips
+
+-- "A return trip saves the record and reads those bytes, or writes the image, a memory or a part of the disk as text and reads that text": a part of
+-- the disk is so many sectors, from sector `first` on.
+pub data Kind : Type 0 where
+  theRecord : Kind
+  theImage : Kind
+  theData : Kind
+  theFrame : Kind
+  theSectors : (first sectors : ℕ) → Kind
+
+-- What a writer is lent, and what a reader fills: a record, or words.
+abbrev pub Carried : Kind → Type 0
+Carried theRecord = Record
+Carried theImage = List ℕ
+Carried theData = List ℕ
+Carried theFrame = List ℕ
+Carried (theSectors first sectors) = List ℕ
+
+abbrev pub part : (k : Kind) → Standing → Carried k
+part theRecord w = recordIn (w .state)
+part theImage w = w .image
+part theData w = w .state .memory
+part theFrame w = w .state .frame
+part (theSectors first sectors) w = w .state .disk
+
+abbrev pub withState : Standing → Machine → Standing
+withState w m = record { image = w .image; state = m }
+
+-- ".. which then takes its place."
+abbrev pub place : (k : Kind) → Carried k → Standing → Standing
+place theRecord r w = withState w (machineOf r (w .state .memory) (w .state .disk) (w .state .frame))
+place theImage image w = record { image = image; state = w .state }
+place theData memory w = withState w (withMemory memory (w .state))
+place theFrame frame w = withState w (withFrame frame (w .state))
+place (theSectors first sectors) words w = withState w (withDisk (put (w .state .disk) (sectorWords * first) words) (w .state))
+
+abbrev pub textOf : (k : Kind) → Carried k → List ℕ
+textOf theRecord r = savedBytes r
+textOf theImage image = fileText imageDigits image
+textOf theData memory = fileText wordDigits memory
+textOf theFrame frame = fileText frameDigits frame
+textOf (theSectors first sectors) disk = fileText wordDigits (sectorsOf disk first sectors)
+
+abbrev pub writeTold : (k : Kind) → Carried k → List ℕ → Told
+writeTold theRecord r space = saveTold r space
+writeTold theImage image space = fileWrites (isImageLength (length image)) (textOf theImage image) (length space)
+writeTold theData memory space = fileWrites (isDataLength (length memory)) (textOf theData memory) (length space)
+writeTold theFrame frame space = fileWrites (isFrameLength (length frame)) (textOf theFrame frame) (length space)
+writeTold (theSectors first sectors) disk space =
+    fileWrites (isDiskPart (length disk) first sectors) (textOf (theSectors first sectors) disk) (length space)
+
+abbrev pub readTold : (k : Kind) → List ℕ → Carried k → Told
+readTold theRecord bytes r = loadTold bytes
+readTold theImage text image = fileReads imageDigits isImageLength (length image) text
+readTold theData text memory = fileReads wordDigits isDataLength (length memory) text
+readTold theFrame text frame = fileReads frameDigits isFrameLength (length frame) text
+readTold (theSectors first sectors) text words = fileReads wordDigits isPartLength (length words) text
+
+abbrev pub readInto : (k : Kind) → List ℕ → Carried k → Carried k
+readInto theRecord bytes r = loadRecord bytes
+readInto theImage text image = fileWords (length image) (lines text)
+readInto theData text memory = fileWords (length memory) (lines text)
+readInto theFrame text frame = fileWords (length frame) (lines text)
+readInto (theSectors first sectors) text words = fileWords (length words) (lines text)
+
+-- "reads that text into a slice of the same length"; a record is read into no slice.
+abbrev pub SameLength : (k : Kind) → Carried k → Type 0
+SameLength theRecord r = Unit {0}
+SameLength theImage image = length image ≡ imageWords
+SameLength theData memory = length memory ≡ dataWords
+SameLength theFrame frame = length frame ≡ frameBytes
+SameLength (theSectors first sectors) words = length words ≡ sectorWords * sectors
+
+-- "With right lent lengths and room for the text": the bytes of a saved record; for each word its digits and an LF; and sectors that the disk has,
+-- at least one.
+abbrev pub Room : (k : Kind) → List ℕ → Type 0
+Room theRecord space = length space ≡ recordBytes
+Room theImage space = imageWords * (imageDigits + 1) ≤ length space
+Room theData space = dataWords * (wordDigits + 1) ≤ length space
+Room theFrame space = frameBytes * (frameDigits + 1) ≤ length space
+Room (theSectors first sectors) space =
+    (0 < sectors) × (first + sectors ≤ diskSectors) × (sectorWords * sectors * (wordDigits + 1) ≤ length space)
+
+-- ---- the lab
+
+abbrev pub lab : Lab
+lab =
+    record {
+      machine = simp;
+      Image = List ℕ;
+      Irqs = List ℕ;
+      codeOf = codeOf;
+      Fresh = Fresh;
+      asks = runQuestions;
+      Kind = Kind;
+      Lent = Carried;
+      Slice = Carried;
+      part = part;
+      place = place;
+      writeTold = writeTold;
+      textOf = textOf;
+      readTold = readTold;
+      readInto = readInto;
+      SameLength = SameLength;
+      Room = Room;
+      accepts = λ code m. acceptsCommand (code .image) (code .irq2) m;
+      isBusy = λ m. not (isFree m);
+    }

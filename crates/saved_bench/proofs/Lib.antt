@@ -1,0 +1,2 @@
+-- Laws of records saved and read again and again.
+pub mod TurnLaws

@@ -1,0 +1,2 @@
+-- A record saved and read again and again.
+pub mod Turns

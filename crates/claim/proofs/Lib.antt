@@ -2,3 +2,4 @@
 pub mod Runs
 pub mod Lists
 pub mod Loop
+pub mod Traces

@@ -1,10 +1,12 @@
-// The proved cycle beside a simulator in C that was written for speed, from document 01 alone.
+// The proved run beside a simulator in C that was written for speed, from document 01 alone.
 //
 // Both run the same programs and lay their log lines into a buffer of their own; the two logs and the memories must be
-// equal. Then each is timed. bench/cycle builds and runs this file:
+// equal. Then each is timed. bench/run builds and runs this file:
 //
-//     bench/cycle            runs of 1,000,000, of 100,000 and of 10,000 cycles
-//     bench/cycle 50000      runs of so many; a short log stays in the cache
+//     bench/run            runs of 1,000,000, of 100,000 and of 10,000 cycles
+//     bench/run 50000      runs of so many; a short log stays in the cache
+//
+// Then what a run costs that is cut into logs of 64 KiB, and a run with an irq2 list of a million cycles.
 //
 // The C simulator writes all sixteen registers in each T line and keeps no text from one line to the next.
 #include <stdbool.h>
@@ -14,14 +16,18 @@
 #include <string.h>
 #include <time.h>
 
-enum { IMAGE = 4096, MEMORY = 4096, DISK = 16384, FRAME = 65536, SECTOR = 128, MOST = 231, LONG_RUN = 1000000, RUNS = 15 };
+enum { IMAGE = 4096, MEMORY = 4096, DISK = 16384, FRAME = 65536, SECTOR = 128, MOST = 231, LONG_RUN = 1000000, RUNS = 15, PIECE = 65536, MANY = 1000000 };
 
 static const uint64_t LIMIT = 0xFFFFFFFFFF; // 2^40 - 1
 
-// The proved one: makes up to n cycles from the fresh record and returns the log's length.
-size_t simp_bench_cycles(const uint64_t *image, size_t image_length, uint32_t *memory, size_t memory_length,
-                         uint32_t *disk, size_t disk_length, uint8_t *frame, size_t frame_length, uint64_t n,
-                         uint8_t *log, size_t log_length);
+// The proved ones, from the fresh record: one run, which returns the log's length; and runs with this budget in all, each
+// lent the log anew, which return the cycles made.
+size_t simp_bench_run(const uint64_t *image, size_t image_length, uint32_t *memory, size_t memory_length, uint32_t *disk,
+                      size_t disk_length, uint8_t *frame, size_t frame_length, const uint64_t *irq2, size_t irq2_length,
+                      uint64_t budget, uint8_t *log, size_t log_length);
+uint64_t simp_bench_runs(const uint64_t *image, size_t image_length, uint32_t *memory, size_t memory_length, uint32_t *disk,
+                         size_t disk_length, uint8_t *frame, size_t frame_length, const uint64_t *irq2, size_t irq2_length,
+                         uint64_t budget, uint8_t *log, size_t log_length);
 
 // ---- text
 
@@ -183,13 +189,48 @@ enum {
     ADD, SUB, MAC, AND, OR, XOR, SLL, SRA, SRL, BEQ, BNE, BLT, BGT, BLE, BGE, JAL, LW, SW, RETI, IN, OUT, HALT
 };
 
-// The same as the proved function.
-__attribute__((noinline)) size_t c_cycles(const uint64_t *image, size_t image_length, uint32_t *memory, size_t memory_length,
-                                          uint32_t *disk, size_t disk_length, uint8_t *frame, size_t frame_length, uint64_t n,
-                                          uint8_t *log, size_t log_length)
+static bool is_asked(const uint32_t *io)
+{
+    return (io[IRQ0ENABLE] & io[IRQ0STATUS]) | (io[IRQ1ENABLE] & io[IRQ1STATUS]) | (io[IRQ2ENABLE] & io[IRQ2STATUS]);
+}
+
+// How many bytes the next cycle logs, where the log has fewer left than a cycle may log.
+static size_t lines_length(const uint64_t *image, const uint32_t *registers, const uint32_t *io_before, uint32_t pc, bool handler, uint64_t age, bool hit)
+{
+    uint32_t r[16], io[23];
+    uint8_t lines[MOST + 32], *p = lines + 163;
+    memcpy(r, registers, sizeof r);
+    memcpy(io, io_before, sizeof io);
+    if (hit)
+        io[IRQ2STATUS] = 1;
+    if (!handler && is_asked(io)) {
+        io[IRQRETURN] = pc;
+        pc = io[IRQHANDLER];
+    }
+    uint64_t word = image[pc];
+    uint32_t op = word >> 40 & 0xFF;
+    r[1] = sign_extend((uint32_t)word >> 12 & 0xFFF);
+    r[2] = sign_extend((uint32_t)word & 0xFFF);
+    uint32_t a = r[word >> 32 & 15] + r[word >> 28 & 15], m = r[word >> 24 & 15];
+    if ((op == IN || op == OUT) && is_listed(a)) {
+        p = put_line_h(p, age, op == OUT, a, 0);
+        if (op == OUT && (a == LEDS || a == DISPLAY7SEG) && io[a] != m)
+            p = put_line_ld(p, 'L', age, m);
+    }
+    return (size_t)(p - lines);
+}
+
+// The same as the proved run. It may write up to 32 bytes beyond the log.
+__attribute__((noinline)) size_t c_run(const uint64_t *image, size_t image_length, uint32_t *memory, size_t memory_length,
+                                       uint32_t *disk, size_t disk_length, uint8_t *frame, size_t frame_length,
+                                       const uint64_t *irq2, size_t irq2_length, uint64_t n, uint8_t *log, size_t log_length)
 {
     if (image_length != IMAGE || memory_length != MEMORY || disk_length != DISK || frame_length != FRAME)
         return 0;
+    for (size_t i = 1; i < irq2_length; i++)
+        if (irq2[i] <= irq2[i - 1])
+            return 0;
+    size_t place = 0;
     uint32_t r[16] = { 0 };
     uint32_t io[23] = { 0 };
     uint32_t status = 0, pc = 0, left = 0;
@@ -199,12 +240,20 @@ __attribute__((noinline)) size_t c_cycles(const uint64_t *image, size_t image_le
     const uint8_t *end = log + log_length;
 
     for (uint64_t i = 0; i < n; i++) {
-        if (status != 0 || age == LIMIT || (size_t)(end - p) < MOST)
+        if (status != 0 || age == LIMIT)
+            break;
+        bool hit = place < irq2_length && irq2[place] == age;
+        size_t room = (size_t)(end - p);
+        if (room < MOST && room < lines_length(image, r, io, pc, handler, age, hit))
             break;
         uint32_t began = left;
 
-        // Step 2; the irq2 list is empty.
-        if (!handler && (((io[IRQ0ENABLE] & io[IRQ0STATUS]) | (io[IRQ1ENABLE] & io[IRQ1STATUS]) | (io[IRQ2ENABLE] & io[IRQ2STATUS])))) {
+        // Steps 1 and 2.
+        if (hit) {
+            io[IRQ2STATUS] = 1;
+            place++;
+        }
+        if (!handler && is_asked(io)) {
             io[IRQRETURN] = pc;
             pc = io[IRQHANDLER];
             handler = true;
@@ -447,8 +496,12 @@ static const struct program {
 
 static uint64_t image[IMAGE];
 
+// The irq2 list of a run.
+static uint64_t irq2[MANY];
+static size_t irq2_length;
+
 // What one of the two runs on.
-typedef size_t simulator(const uint64_t *, size_t, uint32_t *, size_t, uint32_t *, size_t, uint8_t *, size_t, uint64_t, uint8_t *, size_t);
+typedef size_t simulator(const uint64_t *, size_t, uint32_t *, size_t, uint32_t *, size_t, uint8_t *, size_t, const uint64_t *, size_t, uint64_t, uint8_t *, size_t);
 
 struct side {
     simulator *run;
@@ -459,7 +512,7 @@ struct side {
     double best;
 };
 
-static struct side proved = { .run = simp_bench_cycles }, plain = { .run = c_cycles };
+static struct side proved = { .run = simp_bench_run }, plain = { .run = c_run };
 
 static double now(void)
 {
@@ -468,16 +521,31 @@ static double now(void)
     return t.tv_sec * 1e9 + t.tv_nsec;
 }
 
-// One run on fresh memories; returns its nanoseconds.
-static double run(struct side *s, uint64_t n, size_t room)
+static void fill_memories(struct side *s)
 {
     for (uint32_t i = 0; i < MEMORY; i++)
         s->memory[i] = i * 2654435761u;
     for (uint32_t i = 0; i < DISK; i++)
         s->disk[i] = i * 40503u;
     memset(s->frame, 0, FRAME);
+}
+
+// One run on fresh memories; returns its nanoseconds.
+static double run(struct side *s, uint64_t n, size_t room)
+{
+    fill_memories(s);
     double from = now();
-    s->length = s->run(image, IMAGE, s->memory, MEMORY, s->disk, DISK, s->frame, FRAME, n, s->log, room);
+    s->length = s->run(image, IMAGE, s->memory, MEMORY, s->disk, DISK, s->frame, FRAME, irq2, irq2_length, n, s->log, room);
+    return now() - from;
+}
+
+// The proved run cut into logs of 64 KiB; returns its nanoseconds.
+static double run_cut(uint64_t n)
+{
+    fill_memories(&proved);
+    double from = now();
+    if (simp_bench_runs(image, IMAGE, proved.memory, MEMORY, proved.disk, DISK, proved.frame, FRAME, irq2, irq2_length, n, proved.log, PIECE) != n)
+        printf("a cut run made fewer cycles\n");
     return now() - from;
 }
 
@@ -559,6 +627,9 @@ static bool compare_random(int count, size_t room)
     for (int k = 0; k < count; k++) {
         for (int i = 0; i < IMAGE; i++)
             image[i] = random_word();
+        irq2_length = 0;
+        for (uint64_t c = random_below(50); c < cycles; c += 1 + random_below(400))
+            irq2[irq2_length++] = c;
         // One in four meets the end of its log.
         size_t log_length = k % 4 == 0 ? cycles * MOST / 4 : cycles * MOST;
         run(&proved, cycles, log_length);
@@ -567,6 +638,7 @@ static bool compare_random(int count, size_t room)
             return false;
         bytes += plain.length;
     }
+    irq2_length = 0;
     printf("%d random programs: logs and memories equal, %zu bytes of log\n", count, bytes);
     return true;
 }
@@ -575,7 +647,7 @@ int main(int argc, char **argv)
 {
     uint64_t n = argc > 1 ? strtoull(argv[1], 0, 10) : LONG_RUN;
     if (n == 0) {
-        fprintf(stderr, "usage: cycle [CYCLES]\n");
+        fprintf(stderr, "usage: run [CYCLES]\n");
         return 2;
     }
     // Shorter runs are repeated more often, so that the timing takes as long.
@@ -584,8 +656,9 @@ int main(int argc, char **argv)
     bool equal = true;
     fill_tables();
     fill_middles();
+    room = room < PIECE ? PIECE : room;
     proved.log = malloc(room);
-    plain.log = malloc(room);
+    plain.log = malloc(room + 32);
     if (!proved.log || !plain.log) {
         fprintf(stderr, "no memory for two logs of %zu bytes\n", room);
         return 2;
@@ -609,6 +682,32 @@ int main(int argc, char **argv)
         bool same = are_equal(programs[k].name);
         equal = equal && same;
         printf("%-18s %8.2f %8.2f %8.2f %10zu  %s\n", programs[k].name, proved.best / n, plain.best / n, proved.best / plain.best, plain.length, same ? "equal" : "DIFFER");
+    }
+
+    printf("the proved run cut into logs of 64 KiB\n");
+    for (size_t k = 0; k < sizeof programs / sizeof *programs; k++) {
+        memset(image, 0, sizeof image);
+        programs[k].write(image);
+        double whole = 1e300, cut = 1e300;
+        for (uint64_t i = 0; i < runs; i++) {
+            double a = run(&proved, n, room), b = run_cut(n);
+            whole = a < whole ? a : whole;
+            cut = b < cut ? b : cut;
+        }
+        printf("%-18s %8.2f uncut %8.2f cut %8.3f\n", programs[k].name, whole / n, cut / n, cut / whole);
+    }
+
+    for (size_t i = 0; i < MANY; i++)
+        irq2[i] = 2 * i;
+    printf("a run of one cycle, microseconds (proved, C): ");
+    for (irq2_length = 0; irq2_length <= MANY; irq2_length += MANY) {
+        double a = 1e300, b = 1e300;
+        for (int i = 0; i < 50; i++) {
+            double x = run(&proved, 1, room), y = run(&plain, 1, room);
+            a = x < a ? x : a;
+            b = y < b ? y : b;
+        }
+        printf("%s%.2f, %.2f %s", irq2_length ? "; " : "", a / 1000, b / 1000, irq2_length ? "with an irq2 list of a million cycles\n" : "with none");
     }
     return equal ? 0 : 1;
 }

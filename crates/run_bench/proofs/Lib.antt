@@ -1,0 +1,2 @@
+-- The loop of runs.
+pub mod LoopLaws

@@ -1,0 +1,27 @@
+-- Demand 3 of calls that a program made.
+use Prim.Native.Nat.{ℕ}
+use mathlib.Core.Path.{_≡_}
+use mathlib.Core.List.{List}
+use Rattle.machine.specs.declared.Record.{Record}
+use Rattle.claim.specs.Calls.{Call, Done, runCall, total, final}
+use Rattle.claim.specs.Demand.{Demand3}
+use Rattle.runner.specs.Lab.{lab, Standing, Fresh, standingOf}
+
+-- An image and memories stand, with some record.
+abbrev pub standsWith : List ℕ → List ℕ → List ℕ → List ℕ → Standing → Type 0
+standsWith image memory disk frame w = (r : Record) × (w ≡ standingOf image r memory disk frame)
+
+-- One run from `start` wrote so many bytes of log, the log is `log'` then, and after it stands what `Stands` says.
+pub record ByOneRun (irq2 : List ℕ) (budget : ℕ) (log : List ℕ) (start : Standing) (bytes : ℕ) (log' : List ℕ) (Stands : Standing → Type 0) : Type 0 where
+  pub count : bytes ≡ runCall lab budget log irq2 start .bytes
+  pub written : log' ≡ runCall lab budget log irq2 start .log
+  pub stands : Stands (runCall lab budget log irq2 start .lent)
+
+-- There is a list of calls from `start` of which demand 3 holds where `start` is fresh, whose runs made so many cycles in total, and after which
+-- stands what `Stands` says.
+pub record ByCalls (irq2 : List ℕ) (start : Standing) (cycles : ℕ) (Stands : Standing → Type 0) : Type 0 where
+  pub calls : List (Call lab)
+  pub dones : List (Done lab)
+  pub demand : Fresh start → Demand3 lab irq2 start calls dones
+  pub made : total lab dones ≡ cycles
+  pub stands : Stands (final lab start calls dones)

@@ -1,0 +1,2 @@
+-- What real calls leave.
+pub mod ByCalls

@@ -2,10 +2,10 @@
 use Prim.Native.Nat.{ℕ, zero, suc, _+_, _*_, _/_, _%_, _^_, _<_}
 use mathlib.Core.Path.{_≡_, refl, sym, _∙_, ap}
 use mathlib.Core.List.{List, _∷_, _++_}
-use native.Mathlib.Nat.{zero-add, suc-add, add-mul-mod-self-right, add-mul-div-right, mod-eq-of-lt, div-eq-of-lt, div-one, div-div-eq-div-mul, pow-zero, pow-suc, pow-succ', mod-lt, mul-one}
+use native.Mathlib.Nat.{zero-add, suc-add, add-mul-mod-self-right, add-mul-div-right, mod-eq-of-lt, div-eq-of-lt, div-one, div-div-eq-div-mul, pow-zero, pow-succ', mod-lt}
 use native.Mathlib.Omega.{arith}
 use lib.ListN.{length, getD}
-use Rattle.text.specs.Numerals.{digit, digits, lowBytes, HexWords}
+use Rattle.text.specs.Numerals.{digit, digits, lowBytes, HexPairs}
 use Rattle.text.specs.Place.{put}
 use Rattle.text.proofs.PutLaws.{put-append}
 use Rattle.text.proofs.DigitLaws.{digit-lt, digits-split, digits-low}
@@ -39,13 +39,6 @@ low-front k c u h = rw (add-mul-mod-self-right c u 256, mod-eq-of-lt h, add-mul-
 abbrev pub pair : ℕ → ℕ
 pair n = digit (n / 16) + digit (n % 16) * 256
 
--- It fills two bytes at most.
-pair-lt : (n : ℕ) → n < 256 → pair n < 65536
-pair-lt n h =
-    let first = digit-lt (n / 16) (omega arith) in
-    let second = digit-lt (n % 16) (omega arith) in
-    omega arith
-
 -- A pair below the other bytes.
 low-pair : (k n u : ℕ) → n < 256 → lowBytes (suc (suc k)) (pair n + u * 65536) ≡ digits 16 2 n ++ lowBytes k u
 unfolding digits
@@ -64,23 +57,10 @@ pair-front k x u q =
     ∙ rw (q, digits-low 16 (omega arith) 2 (x / 16 ^ k), ← digits-low 16 (omega arith) k x)
     (sym (ap (λ (n : ℕ). digits 16 n x) two ∙ digits-split 16 (omega arith) 2 k x))
 
--- The bytes of a pair are the digits.
-pub pair-bytes : (n : ℕ) → n < 256 → lowBytes 2 (pair n) ≡ digits 16 2 n
-unfolding lowBytes digits
-pair-bytes n h = let alone : pair n ≡ pair n + 0 * 65536 = omega arith in ap (λ (v : ℕ). lowBytes 2 v) alone ∙ low-pair 0 n 0 h
-
 -- The last k pairs of digits of x in a number, the first in its low byte.
 abbrev pub paired : ℕ → ℕ → ℕ
 paired zero x = 0
 paired (suc k) x = pair (x / 16 ^ (k * 2) % 256) + paired k x * 65536
-
--- They fill two bytes each.
-pub paired-lt : (k x : ℕ) → paired k x < 65536 ^ k
-paired-lt zero x = omega arith
-paired-lt (suc k) x =
-    let first = pair-lt (x / 16 ^ (k * 2) % 256) (mod-lt (x / 16 ^ (k * 2)) (omega arith)) in
-    let rest = paired-lt k x in
-    rw pow-suc (omega arith)
 
 -- Its bytes are the digits.
 pub paired-bytes : (k x : ℕ) → lowBytes (k * 2) (paired k x) ≡ digits 16 (k * 2) x
@@ -90,17 +70,13 @@ paired-bytes (suc k) x = let two : suc k * 2 ≡ suc (suc (k * 2)) = omega arith
 
 -- ---- the table
 
--- Its first entries are the pairs themselves.
-pub entry-pair : (t : List ℕ) (n : ℕ) → HexWords t → n < 256 → getD t n 0 ≡ pair n
-entry-pair t n w h = rw (zero-add, pow-zero, mul-one) at (w 0 n (omega arith) h)
-
--- The sum of a word's four entries has all its digits.
-pub entries-sum : (t : List ℕ) (x : ℕ) → HexWords t → x < 2 ^ 32
-    → getD t (x / 16777216) 0 + getD t (256 + x / 65536 % 256) 0 + getD t (512 + x / 256 % 256) 0 + getD t (768 + x % 256) 0 ≡ paired 4 x
+-- The four pairs of a word in one number have all its digits.
+pub entries-sum : (t : List ℕ) (x : ℕ) → HexPairs t → x < 2 ^ 32
+    → getD t (x / 16777216) 0 + getD t (x / 65536 % 256) 0 * 65536 + getD t (x / 256 % 256) 0 * 4294967296 + getD t (x % 256) 0 * 281474976710656 ≡ paired 4 x
 entries-sum t x w h =
-    let a = entry-pair t (x / 16777216) w (omega arith) in
-    let b = w 1 (x / 65536 % 256) (omega arith) (omega arith) in
-    let c = w 2 (x / 256 % 256) (omega arith) (omega arith) in
-    let d = w 3 (x % 256) (omega arith) (omega arith) in
+    let a = w (x / 16777216) (omega arith) in
+    let b = w (x / 65536 % 256) (omega arith) in
+    let c = w (x / 256 % 256) (omega arith) in
+    let d = w (x % 256) (omega arith) in
     let first : x / 16777216 % 256 ≡ x / 16777216 = mod-eq-of-lt {m = 256} (omega arith) in
     rw (first, div-one) (omega arith)

@@ -1,45 +1,35 @@
+-- `run_bench::simp_bench_run` meets its contract.
 use mathlib.Core.Path.{refl, ap}
+use borrow.Author.Needs.{needs}
 use Rattle.machine.specs.declared.Record.{Record}
 use Rattle.saved.specs.Calls.{freshRecord}
 use Rattle.runner.specs.Lab.{standingOf}
 use Rattle.runner.specs.Answers.{doneOf}
 use Rattle.run_bench.specs.ByCalls.{standsWith}
 use Rattle.run_bench.proofs.LoopLaws.{by-one-run}
-use borrow.Author.Needs.{needs}
 use Rattle.run_bench.proofs.simp_bench_run.Statement.{statement}
 use Rattle.run_bench.proofs.simp_bench_run.Tie as tie
-use Rattle.run_bench.proofs.simp_bench_run.Reads as reads
-use Rattle.run_bench.proofs.simp_bench_run.Lts as lts
-use Rattle.run_bench.proofs.fresh.Reads as fresh-reads
-use Rattle.runner.proofs.run.Reads as run-reads
 
--- src/lib.rt:23:17
 fresh-requires : tie.Need-fresh-requires
 fresh-requires c κs = search needs
 
--- src/lib.rt:23:9
 run-requires : tie.Need-run-requires
 run-requires c κs = search needs
 
--- src/lib.rt:11:1
 same-length : tie.Need-same-length
 same-length c = search needs
 
--- src/lib.rt:11:1
 same-length-2 : tie.Need-same-length-2
 same-length-2 c = search needs
 
--- src/lib.rt:11:1
 same-length-3 : tie.Need-same-length-3
 same-length-3 c = search needs
 
--- src/lib.rt:11:1
 same-length-4 : tie.Need-same-length-4
 same-length-4 c = search needs
 
--- src/lib.rt:11:1
 returns : tie.Need-returns
-returns c = 
+returns c =
     let a = c .before .before .before .before .before .before .before .before .before .before .before .before .before .before .before .before .before .before .before .before .args in
     let r = c .before .before .before .before .before .before .before .before .run in
     by-one-run (a .irq2 .now) (a .budget) (a .log .now) (standingOf (a .image .now) freshRecord (a .memory .now) (a .disk .now) (a .frame .now)) _ (ap (λ (s : Record). standingOf (a .image .now) s (a .memory .now) (a .disk .now) (a .frame .now)) (c .before .before .before .before .before .before .before .before .before .before .before .before .before .fresh .ensures)) (doneOf (r .result) (a .image .now) (r .last .1 .1 .0) (r .last .1 .1 .1 .0) (r .last .1 .1 .1 .1 .0) (r .last .1 .1 .1 .1 .1 .1 .1 .0)) (r .ensures) (standsWith (a .image .now) (r .last .1 .1 .0) (r .last .1 .1 .1 .0) (r .last .1 .1 .1 .1 .0)) (r .result .state, refl)

@@ -1,3 +1,4 @@
+-- `run_bench::simp_bench_runs` meets its contract.
 use Prim.Native.Nat.{_-_, _+_}
 use mathlib.Core.Path.{_≡_, refl, _∙_}
 use native.Mathlib.Omega.{arith}
@@ -10,10 +11,6 @@ use Rattle.run_bench.specs.ByCalls.{standsWith}
 use Rattle.run_bench.proofs.LoopLaws.{Made, none-made, one-more, within, by-calls}
 use Rattle.run_bench.proofs.simp_bench_runs.Statement.{statement}
 use Rattle.run_bench.proofs.simp_bench_runs.Tie as tie
-use Rattle.run_bench.proofs.simp_bench_runs.Reads as reads
-use Rattle.run_bench.proofs.simp_bench_runs.Lts as lts
-use Rattle.run_bench.proofs.fresh.Reads as fresh-reads
-use Rattle.runner.proofs.run.Reads as run-reads
 
 abbrev Inv-loop : tie.InvT-loop
 Inv-loop image memory₀ disk₀ frame₀ irq2 budget log₀ state₀ left₀ memory disk frame log state left =
@@ -23,39 +20,30 @@ Inv-loop image memory₀ disk₀ frame₀ irq2 budget log₀ state₀ left₀ me
 abbrev μ-loop : tie.MeasureT-loop
 μ-loop image memory₀ disk₀ frame₀ irq2 budget log₀ state₀ left₀ memory disk frame log state left = left
 
--- src/lib.rt:23:9
 fresh-requires : tie.Need-fresh-requires Inv-loop μ-loop
 fresh-requires c κs = search needs
 
--- src/lib.rt:25:5
 loop-holds : tie.Need-loop-holds Inv-loop μ-loop
 loop-holds c = (rw (c .fresh .ensures) (none-made _ _ _), refl, refl, refl, refl)
 
--- src/lib.rt:26:13
 run-requires : tie.Need-run-requires Inv-loop μ-loop
 run-requires c κs = search needs
 
--- src/lib.rt:30:20
 sub-result : tie.Need-sub-result Inv-loop μ-loop
 sub-result c = let all = c .before .before .before .before .before .before .before .before .before .before .before .before .before .before .before .before .before .loop .inv .0 .spent in omega arith
 
--- src/lib.rt:30:13
 same-length : tie.Need-same-length Inv-loop μ-loop
 same-length c = search needs
 
--- src/lib.rt:30:13
 same-length-2 : tie.Need-same-length-2 Inv-loop μ-loop
 same-length-2 c = search needs
 
--- src/lib.rt:30:13
 same-length-3 : tie.Need-same-length-3 Inv-loop μ-loop
 same-length-3 c = search needs
 
--- src/lib.rt:30:13
 same-length-4 : tie.Need-same-length-4 Inv-loop μ-loop
 same-length-4 c = search needs
 
--- src/lib.rt:30:13
 returns : tie.Need-returns Inv-loop μ-loop
 returns c =
     let a = c .before .before .before .before .before .before .before .before .before .before .before .before .before .before .before .before .before .before .before .before .before .before .before .before .before .args in
@@ -64,7 +52,6 @@ returns c =
     let m = one-more (l .inv .0) (l .log) (doneOf (r .result) (a .image .now) (r .last .1 .1 .0) (r .last .1 .1 .1 .0) (r .last .1 .1 .1 .1 .0) (r .last .1 .1 .1 .1 .1 .1 .1 .0)) (r .ensures) (l .left) (omega (arith, c .if1 .taken)) in
     by-calls m (a .budget - l .left) (let all = l .inv .0 .spent in omega arith) (standsWith (a .image .now) (r .last .1 .1 .0) (r .last .1 .1 .1 .0) (r .last .1 .1 .1 .1 .0)) (r .result .state, refl)
 
--- src/lib.rt:32:9
 sub-left : tie.Need-sub-left Inv-loop μ-loop
 sub-left c =
     let a = c .before .before .before .before .before .before .before .before .before .before .before .before .before .before .before .before .before .before .before .before .before .before .before .before .before .before .args in
@@ -72,7 +59,6 @@ sub-left c =
     let r = c .before .before .before .before .before .before .before .before .before .before .before .before .run in
     within (l .inv .0) (l .log) (doneOf (r .result) (a .image .now) (r .last .1 .1 .0) (r .last .1 .1 .1 .0) (r .last .1 .1 .1 .1 .0) (r .last .1 .1 .1 .1 .1 .1 .1 .0)) (r .ensures)
 
--- src/lib.rt:25:5
 loop-less : tie.Need-loop-less Inv-loop μ-loop
 loop-less c =
     let a = c .before .before .before .before .before .before .before .before .before .before .before .before .before .before .before .before .before .before .before .before .before .before .before .before .before .before .args in
@@ -81,7 +67,6 @@ loop-less c =
     let most = within (l .inv .0) (l .log) (doneOf (r .result) (a .image .now) (r .last .1 .1 .0) (r .last .1 .1 .1 .0) (r .last .1 .1 .1 .1 .0) (r .last .1 .1 .1 .1 .1 .1 .1 .0)) (r .ensures) in
     omega (arith, most, c .before .if1 .left)
 
--- src/lib.rt:25:5
 loop-again : tie.Need-loop-again Inv-loop μ-loop
 loop-again c =
     let a = c .before .before .before .before .before .before .before .before .before .before .before .before .before .before .before .before .before .before .before .before .before .before .before .before .before .before .args in
@@ -95,23 +80,18 @@ loop-again c =
     let frame-kept : length (r .last .1 .1 .1 .1 .0) ≡ length (l .frame) = omega (arith, r .kept) in
     (one-more (l .inv .0) (l .log) (doneOf (r .result) (a .image .now) (r .last .1 .1 .0) (r .last .1 .1 .1 .0) (r .last .1 .1 .1 .1 .0) (r .last .1 .1 .1 .1 .1 .1 .1 .0)) (r .ensures) (l .left - r .result .cycles) rest, log-kept ∙ l .inv .1, memory-kept ∙ l .inv .2, disk-kept ∙ l .inv .3, frame-kept ∙ l .inv .4)
 
--- src/lib.rt:11:1
 same-length-5 : tie.Need-same-length-5 Inv-loop μ-loop
 same-length-5 c = search needs
 
--- src/lib.rt:11:1
 same-length-6 : tie.Need-same-length-6 Inv-loop μ-loop
 same-length-6 c = search needs
 
--- src/lib.rt:11:1
 same-length-7 : tie.Need-same-length-7 Inv-loop μ-loop
 same-length-7 c = search needs
 
--- src/lib.rt:11:1
 same-length-8 : tie.Need-same-length-8 Inv-loop μ-loop
 same-length-8 c = search needs
 
--- src/lib.rt:11:1
 returns-2 : tie.Need-returns-2 Inv-loop μ-loop
 returns-2 c =
     let a = c .before .before .before .before .before .before .before .before .before .args in

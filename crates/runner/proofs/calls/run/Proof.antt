@@ -1,43 +1,31 @@
+-- `runner::calls::run` meets its contract.
 use mathlib.Core.Path.{refl}
 use borrow.Author.Tests.{not-true, not-false}
-use Rattle.runner.specs.declared.RunAnswer.the-variants as RunAnswer
+use borrow.Author.Needs.{needs}
 use Rattle.runner.specs.Lab.{standingOf}
 use Rattle.runner.proofs.RunLaws.{so, right-lengths, run-accepted, told-length, told-rising, told-unsound, run-refused}
-use borrow.Author.Needs.{needs}
+use Rattle.runner.specs.declared.RunAnswer.the-variants as RunAnswer
 use Rattle.runner.proofs.calls.run.Statement.{statement}
 use Rattle.runner.proofs.calls.run.Tie as tie
-use Rattle.runner.proofs.calls.run.Reads as reads
-use Rattle.runner.proofs.calls.run.Lts as lts
-use Rattle.runner.proofs.calls.refused.Reads as refused-reads
-use Rattle.runner.proofs.calls.run_sound.Reads as run-sound-reads
-use Rattle.runner.proofs.irq2.is_rising.Reads as is-rising-reads
-use Rattle.runner.proofs.questions.are_lengths.Reads as are-lengths-reads
-use Rattle.saved.proofs.is_sound.Reads as is-sound-reads
 
--- src/calls.rt:37:9
 are-lengths-requires : tie.Need-are-lengths-requires
 are-lengths-requires c κs = search needs
 
--- src/calls.rt:38:9
 refused-requires : tie.Need-refused-requires
 refused-requires c κs = search needs
 
--- src/calls.rt:38:9
 returns : tie.Need-returns
 returns c =
     let a = c .before .before .before .before .before .before .before .before .before .args in
     let lengths = so (c .before .before .are-lengths .ensures) (not-true _ (c .before .if1 .taken)) in
     run-refused (a .image .now) (a .irq2 .now) (a .memory .now) (a .disk .now) (a .frame .now) (a .log .now) (a .state) (a .budget) RunAnswer.WrongLength (told-length (standingOf (a .image .now) (a .state) (a .memory .now) (a .disk .now) (a .frame .now)) (a .irq2 .now) (a .log .now) (a .budget) lengths) refl refl (c .refused .result) (c .refused .ensures)
 
--- src/calls.rt:40:9
 is-rising-requires : tie.Need-is-rising-requires
 is-rising-requires c κs = search needs
 
--- src/calls.rt:41:9
 refused-requires-2 : tie.Need-refused-requires-2
 refused-requires-2 c κs = search needs
 
--- src/calls.rt:41:9
 returns-2 : tie.Need-returns-2
 returns-2 c =
     let a = c .before .before .before .before .before .before .before .before .before .before .before .args in
@@ -45,15 +33,12 @@ returns-2 c =
     let up = so (c .before .before .is-rising .ensures) (not-true _ (c .before .if2 .taken)) in
     run-refused (a .image .now) (a .irq2 .now) (a .memory .now) (a .disk .now) (a .frame .now) (a .log .now) (a .state) (a .budget) RunAnswer.NotRising (told-rising (standingOf (a .image .now) (a .state) (a .memory .now) (a .disk .now) (a .frame .now)) (a .irq2 .now) (a .log .now) (a .budget) lengths up) refl refl (c .refused2 .result) (c .refused2 .ensures)
 
--- src/calls.rt:43:9
 is-sound-requires : tie.Need-is-sound-requires
 is-sound-requires c κs = search needs
 
--- src/calls.rt:44:9
 refused-requires-3 : tie.Need-refused-requires-3
 refused-requires-3 c κs = search needs
 
--- src/calls.rt:44:9
 returns-3 : tie.Need-returns-3
 returns-3 c =
     let a = c .before .before .before .before .before .before .before .before .before .before .before .before .before .args in
@@ -62,7 +47,6 @@ returns-3 c =
     let sound = so (c .before .before .is-sound .ensures) (not-true _ (c .before .if3 .taken)) in
     run-refused (a .image .now) (a .irq2 .now) (a .memory .now) (a .disk .now) (a .frame .now) (a .log .now) (a .state) (a .budget) RunAnswer.Unsound (told-unsound (standingOf (a .image .now) (a .state) (a .memory .now) (a .disk .now) (a .frame .now)) (a .irq2 .now) (a .log .now) (a .budget) lengths up sound) refl refl (c .refused3 .result) (c .refused3 .ensures)
 
--- src/calls.rt:46:5
 run-sound-requires : tie.Need-run-sound-requires
 run-sound-requires c κs =
     let a = c .before .before .before .before .before .before .before .before .before .before .before .before .before .before .before .before .args in
@@ -72,23 +56,18 @@ run-sound-requires c κs =
     let sizes = right-lengths (a .image .now) (a .memory .now) (a .disk .now) (a .frame .now) (a .state) lengths in
     (sound, (up, (sizes .0, sizes .1)))
 
--- src/calls.rt:25:1
 same-length : tie.Need-same-length
 same-length c = search needs
 
--- src/calls.rt:25:1
 same-length-2 : tie.Need-same-length-2
 same-length-2 c = search needs
 
--- src/calls.rt:25:1
 same-length-3 : tie.Need-same-length-3
 same-length-3 c = search needs
 
--- src/calls.rt:25:1
 same-length-4 : tie.Need-same-length-4
 same-length-4 c = search needs
 
--- src/calls.rt:25:1
 returns-4 : tie.Need-returns-4
 returns-4 c =
     let a = c .before .before .before .before .before .before .before .before .before .before .before .before .before .before .before .before .before .before .before .before .before .before .before .before .before .args in

@@ -1,56 +1,40 @@
+-- `runner::calls::run_sound` meets its contract.
+use borrow.Author.Needs.{needs}
 use Rattle.saved.proofs.SoundTest.{sound-yes}
 use Rattle.runner.proofs.RunLaws.{report}
-use borrow.Author.Needs.{needs}
 use Rattle.runner.proofs.calls.run_sound.Statement.{statement}
 use Rattle.runner.proofs.calls.run_sound.Tie as tie
-use Rattle.runner.proofs.calls.run_sound.Reads as reads
-use Rattle.runner.proofs.calls.run_sound.Lts as lts
-use Rattle.runner.proofs.cycles.make_cycles.Reads as make-cycles-reads
-use Rattle.runner.proofs.registers.all_registers.Reads as all-registers-reads
-use Rattle.runner.proofs.registers.kept_registers.Reads as kept-registers-reads
-use Rattle.text.proofs.hex_words.hex_words.Reads as hex-words-reads
-use Rattle.trace.proofs.registers.lay_registers.Reads as lay-registers-reads
 
--- src/calls.rt:75:17
-hex-words-requires : tie.Need-hex-words-requires
-hex-words-requires c κs = search needs
+hex-pairs-requires : tie.Need-hex-pairs-requires
+hex-pairs-requires c κs = search needs
 
--- src/calls.rt:77:20
 all-registers-requires : tie.Need-all-registers-requires
 all-registers-requires c κs = search needs
 
--- src/calls.rt:80:5
 lay-registers-requires : tie.Need-lay-registers-requires
 lay-registers-requires c κs = search needs
 
--- src/calls.rt:81:9
 make-cycles-requires : tie.Need-make-cycles-requires
 make-cycles-requires c κs =
     let p = c .before .before .before .before .before .before .before .before .before .before .before .before .before .before .before .before .before .before .before .before .before .before .pre in
     let r = c .before .before .before .before .before .before .before .before .before .before .before .before .before .all-registers .ensures in
-    ((rw (r .0) (sound-yes _ (p .0)), p .1 .0), (p .1 .1 .0, (record { sixteen = r .1 .0; zero = r .1 .1; is = c .before .before .before .before .before .before .before .before .lay-registers .ensures }, (c .before .before .before .before .before .before .before .before .before .before .before .before .before .before .before .hex-words .ensures, p .1 .1 .1))))
+    ((rw (r .0) (sound-yes _ (p .0)), p .1 .0), (p .1 .1 .0, (record { sixteen = r .1 .0; zero = r .1 .1; is = c .before .before .before .before .before .before .before .before .lay-registers .ensures }, (c .before .before .before .before .before .before .before .before .before .before .before .before .before .before .before .hex-pairs .ensures, p .1 .1 .1))))
 
--- src/calls.rt:97:9
 kept-registers-requires : tie.Need-kept-registers-requires
 kept-registers-requires c κs = search needs
 
--- src/calls.rt:62:1
 same-length : tie.Need-same-length
 same-length c = search needs
 
--- src/calls.rt:62:1
 same-length-2 : tie.Need-same-length-2
 same-length-2 c = search needs
 
--- src/calls.rt:62:1
 same-length-3 : tie.Need-same-length-3
 same-length-3 c = search needs
 
--- src/calls.rt:62:1
 same-length-4 : tie.Need-same-length-4
 same-length-4 c = search needs
 
--- src/calls.rt:62:1
 returns : tie.Need-returns
 returns c =
     let a = c .before .before .before .before .before .before .before .before .before .before .before .before .before .before .before .before .before .before .before .before .before .before .before .before .before .before .before .before .before .before .before .before .before .args in
@@ -62,7 +46,7 @@ pub run-sound-spec : {M : Type 1} → statement M
 run-sound-spec =
     tie.close
     (tie.spec
-    hex-words-requires
+    hex-pairs-requires
     all-registers-requires
     lay-registers-requires
     make-cycles-requires

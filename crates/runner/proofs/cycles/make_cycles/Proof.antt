@@ -1,9 +1,9 @@
-use borrow.Author.Tests.{not-true, not-false}
-use Prim.Native.Nat.{_^_}
-use Prim.Native.Nat.{_+_, _-_, _≤_, _<_}
+-- `runner::cycles::make_cycles` meets its contract.
+use Prim.Native.Nat.{_^_, _-_, _<_}
 use mathlib.Core.Path.{_≡_, refl, sym, _∙_, ap}
 use native.Mathlib.Omega.{arith}
 use lib.ListN.{length}
+use borrow.Author.Tests.{not-true, not-false}
 use borrow.Author.Needs.{needs}
 use Rattle.machine.specs.declared.Core.{Core}
 use Rattle.executor.specs.Lent.{packed}
@@ -11,14 +11,6 @@ use Rattle.runner.proofs.TurnLaws.{Turning, turn}
 use Rattle.runner.proofs.GoLaws.{Under, sets-out, ends-spent, ends-there, not-at-limit, has-room, goes-round}
 use Rattle.runner.proofs.cycles.make_cycles.Statement.{statement}
 use Rattle.runner.proofs.cycles.make_cycles.Tie as tie
-use Rattle.runner.proofs.cycles.make_cycles.Reads as reads
-use Rattle.runner.proofs.cycles.make_cycles.Lts as lts
-use Rattle.runner.proofs.irq2.is_at.Reads as is-at-reads
-use Rattle.runner.proofs.irq2.next_place.Reads as next-place-reads
-use Rattle.runner.proofs.irq2.place_of.Reads as place-of-reads
-use Rattle.runner.proofs.questions.ended.Reads as ended-reads
-use Rattle.runner.proofs.questions.may_cycle.Reads as may-cycle-reads
-use Rattle.simulator.proofs.cycle.cycle.Reads as cycle-reads
 
 abbrev Inv-loop : tie.InvT-loop
 Inv-loop regs₀ text₀ io₀ image memory₀ disk₀ frame₀ irq2 budget log₀ table c₀ place₀ at₀ n₀ regs text io memory disk frame log c place at n =
@@ -29,51 +21,40 @@ Inv-loop regs₀ text₀ io₀ image memory₀ disk₀ frame₀ irq2 budget log�
 abbrev μ-loop : tie.MeasureT-loop
 μ-loop regs₀ text₀ io₀ image memory₀ disk₀ frame₀ irq2 budget log₀ table c₀ place₀ at₀ n₀ regs text io memory disk frame log c place at n = budget - n
 
--- src/cycles.rt:42:9
 place-of-requires : tie.Need-place-of-requires Inv-loop μ-loop
 place-of-requires c κs = c .before .before .before .before .before .before .pre .0 .1
 
--- src/cycles.rt:45:5
 loop-holds : tie.Need-loop-holds Inv-loop μ-loop
 loop-holds c =
     let p = c .before .before .before .before .before .before .before .pre in
     (sets-out _ _ _ _ _ (p .0 .1) _ (c .place-of .ensures), record { sound = p .0 .0; kept = p .1 .1 .0; sized = p .1 .1 .1 .1 }, refl, refl, refl, refl)
 
--- src/cycles.rt:46:13
 is-at-requires : tie.Need-is-at-requires Inv-loop μ-loop
 is-at-requires c κs = search needs
 
--- src/cycles.rt:47:48
 sub-may-cycle : tie.Need-sub-may-cycle Inv-loop μ-loop
 sub-may-cycle c = let u = c .before .before .before .before .loop .inv .0 .within in let e = c .before .before .before .before .loop .inv .2 in omega arith
 
--- src/cycles.rt:47:13
 may-cycle-requires : tie.Need-may-cycle-requires Inv-loop μ-loop
 may-cycle-requires c κs =
     let t = c .before .before .before .before .loop .inv .1 in
     (t .sound, (t .kept .sixteen, (t .kept .zero, c .before .before .before .before .before .before .before .before .before .before .before .before .pre .1 .0)))
 
--- src/cycles.rt:48:13
 ended-requires : tie.Need-ended-requires Inv-loop μ-loop
 ended-requires c κs = search needs
 
--- src/cycles.rt:48:13
 same-length : tie.Need-same-length Inv-loop μ-loop
 same-length c = search needs
 
--- src/cycles.rt:48:13
 same-length-2 : tie.Need-same-length-2 Inv-loop μ-loop
 same-length-2 c = search needs
 
--- src/cycles.rt:48:13
 same-length-3 : tie.Need-same-length-3 Inv-loop μ-loop
 same-length-3 c = search needs
 
--- src/cycles.rt:48:13
 same-length-4 : tie.Need-same-length-4 Inv-loop μ-loop
 same-length-4 c = search needs
 
--- src/cycles.rt:48:13
 returns : tie.Need-returns Inv-loop μ-loop
 returns c =
     let a = c .before .before .before .before .before .before .before .before .before .before .before .before .before .before .before .args in
@@ -81,7 +62,6 @@ returns c =
     let e = c .ended .ensures in
     ends-there (a .image .now) (a .irq2 .now) (packed (a .start) (a .regs .now) (a .io .now) (a .memory .now) (a .disk .now) (a .frame .now)) (a .budget) (a .log .now) (c .before .before .before .before .before .before .before .before .before .before .before .before .before .before .before .pre .0 .1) (l .n) (l .at) (l .place) (packed (l .c) (l .regs) (l .io) (l .memory) (l .disk) (l .frame)) (l .log) (l .inv .0) (c .before .before .before .before .before .is-at .result) (c .before .before .before .before .before .is-at .ensures) (c .before .before .may-cycle .result) (not-true (c .before .before .may-cycle .result) (c .before .if1 .taken)) (c .before .before .may-cycle .ensures (l .memory) (l .disk) (l .frame)) (c .ended .result) _ (ap (λ (x : Core). packed x (l .regs) (l .io) (l .memory) (l .disk) (l .frame)) (e .0 .0)) (e .0 .1 .0) (e .0 .1 .1) (e .1 .0) (e .1 .1)
 
--- src/cycles.rt:50:13
 cycle-requires : tie.Need-cycle-requires Inv-loop μ-loop
 cycle-requires c κs =
     let a = c .before .before .before .before .before .before .before .before .before .before .before .before .before .before .before .before .before .before .before .before .before .args in
@@ -91,19 +71,15 @@ cycle-requires c κs =
     let may = c .before .before .before .before .before .before .before .before .may-cycle in
     (t .sound, ((p .1 .0, (t .kept, (p .1 .1 .1 .0, t .sized))), has-room (a .image .now) (a .irq2 .now) (packed (a .start) (a .regs .now) (a .io .now) (a .memory .now) (a .disk .now) (a .frame .now)) (a .budget) (a .log .now) (p .0 .1) (l .n) (l .at) (l .place) (packed (l .c) (l .regs) (l .io) (l .memory) (l .disk) (l .frame)) (l .log) (l .inv .0) (c .before .before .before .before .before .before .before .before .before .before .before .is-at .result) (c .before .before .before .before .before .before .before .before .before .before .before .is-at .ensures) (may .result) (not-false (may .result) (c .before .before .before .before .before .before .before .if1 .left)) (may .ensures (l .memory) (l .disk) (l .frame))))
 
--- src/cycles.rt:66:9
 next-place-requires : tie.Need-next-place-requires Inv-loop μ-loop
 next-place-requires c κs = let w = c .before .before .before .before .before .before .before .before .before .before .before .before .before .before .before .before .before .before .before .before .before .before .before .loop .inv .0 .place .within in omega (arith, w, c .before .before .before .before .before .before .before .before .before .before .before .before .before .before .before .before .before .before .before .before .before .before .before .before .before .before .before .before .before .before .before .good)
 
--- src/cycles.rt:67:9
 add-n : tie.Need-add-n Inv-loop μ-loop
 add-n c = record { fits = omega (arith, c .before .before .before .before .before .before .before .before .before .before .before .before .before .before .before .before .before .before .before .before .before .before .before .loop-test .taken, c .before .before .before .before .before .before .before .before .before .before .before .before .before .before .before .before .before .before .before .before .before .before .before .before .before .before .before .before .before .before .before .before .fits .budget .fits) }
 
--- src/cycles.rt:45:5
 loop-less : tie.Need-loop-less Inv-loop μ-loop
 loop-less c = search needs
 
--- src/cycles.rt:45:5
 loop-again : tie.Need-loop-again Inv-loop μ-loop
 loop-again c =
     let a = c .before .before .before .before .before .before .before .before .before .before .before .before .before .before .before .before .before .before .before .before .before .before .before .before .before .before .before .before .before .before .before .before .args in
@@ -122,27 +98,21 @@ loop-again c =
     let y = i .1 .sized in
     (round, next, same ∙ i .2, z .memory-size ∙ sym (y .memory-size) ∙ i .3, z .disk-size ∙ sym (y .disk-size) ∙ i .4, z .frame-size ∙ sym (y .frame-size) ∙ i .5)
 
--- src/cycles.rt:69:5
 ended-requires-2 : tie.Need-ended-requires-2 Inv-loop μ-loop
 ended-requires-2 c κs = search needs
 
--- src/cycles.rt:23:1
 same-length-5 : tie.Need-same-length-5 Inv-loop μ-loop
 same-length-5 c = search needs
 
--- src/cycles.rt:23:1
 same-length-6 : tie.Need-same-length-6 Inv-loop μ-loop
 same-length-6 c = search needs
 
--- src/cycles.rt:23:1
 same-length-7 : tie.Need-same-length-7 Inv-loop μ-loop
 same-length-7 c = search needs
 
--- src/cycles.rt:23:1
 same-length-8 : tie.Need-same-length-8 Inv-loop μ-loop
 same-length-8 c = search needs
 
--- src/cycles.rt:23:1
 returns-2 : tie.Need-returns-2 Inv-loop μ-loop
 returns-2 c =
     let a = c .before .before .before .before .before .before .before .before .before .before .args in

@@ -1,23 +1,18 @@
+-- `runner::irq2::is_at` meets its contract.
 use borrow.Author.Tests.{lt-ltb, le-ltb}
 use borrow.Author.Needs.{needs}
 use Rattle.runner.proofs.irq2.is_at.Statement.{statement}
 use Rattle.runner.proofs.irq2.is_at.Tie as tie
-use Rattle.runner.proofs.irq2.is_at.Reads as reads
-use Rattle.runner.proofs.irq2.is_at.Lts as lts
 
--- src/irq2.rt:45:9
 mul-result : tie.Need-mul-result
 mul-result c = search needs
 
--- src/irq2.rt:45:9
 shared-slice-read-result : tie.Need-shared-slice-read-result
 shared-slice-read-result c = search needs
 
--- src/irq2.rt:41:1
 returns : tie.Need-returns
 returns c = rw (lt-ltb _ _ (c .before .if1 .taken))
 
--- src/irq2.rt:41:1
 returns-2 : tie.Need-returns-2
 returns-2 c = rw (le-ltb _ _ (c .if1 .left))
 

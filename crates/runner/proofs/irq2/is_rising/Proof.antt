@@ -1,11 +1,10 @@
-use native.Mathlib.Omega.{arith}
-use Rattle.runner.proofs.Irq2Laws.{Scanned, scan-begun, scan-turned, scan-failed, scan-finished}
+-- `runner::irq2::is_rising` meets its contract.
 use Prim.Native.Nat.{_-_}
+use native.Mathlib.Omega.{arith}
 use lib.ListN.{length}
+use Rattle.runner.proofs.Irq2Laws.{Scanned, scan-begun, scan-turned, scan-failed, scan-finished}
 use Rattle.runner.proofs.irq2.is_rising.Statement.{statement}
 use Rattle.runner.proofs.irq2.is_rising.Tie as tie
-use Rattle.runner.proofs.irq2.is_rising.Reads as reads
-use Rattle.runner.proofs.irq2.is_rising.Lts as lts
 
 abbrev Inv-loop : tie.InvT-loop
 Inv-loop cycles i₀ i = Scanned cycles i
@@ -13,47 +12,36 @@ Inv-loop cycles i₀ i = Scanned cycles i
 abbrev μ-loop : tie.MeasureT-loop
 μ-loop cycles i₀ i = length cycles - i
 
--- src/irq2.rt:13:5
 loop-holds : tie.Need-loop-holds Inv-loop μ-loop
 loop-holds c = scan-begun _
 
--- src/irq2.rt:14:12
 mul-if1 : tie.Need-mul-if1 Inv-loop μ-loop
 mul-if1 c = record { fits = omega arith }
 
--- src/irq2.rt:14:12
 shared-slice-read-if1 : tie.Need-shared-slice-read-if1 Inv-loop μ-loop
 shared-slice-read-if1 c = omega arith
 
--- src/irq2.rt:14:32
 sub-if1 : tie.Need-sub-if1 Inv-loop μ-loop
 sub-if1 c = c .before .before .loop .inv .some
 
--- src/irq2.rt:14:25
 mul-if1-2 : tie.Need-mul-if1-2 Inv-loop μ-loop
 mul-if1-2 c = record { fits = omega arith }
 
--- src/irq2.rt:14:25
 shared-slice-read-if1-2 : tie.Need-shared-slice-read-if1-2 Inv-loop μ-loop
 shared-slice-read-if1-2 c = omega arith
 
--- src/irq2.rt:15:13
 returns : tie.Need-returns Inv-loop μ-loop
 returns c = scan-failed (c .before .before .before .before .loop .inv) (omega arith) (omega arith)
 
--- src/irq2.rt:17:9
 add-i : tie.Need-add-i Inv-loop μ-loop
 add-i c = omega arith
 
--- src/irq2.rt:13:5
 loop-less : tie.Need-loop-less Inv-loop μ-loop
 loop-less c = omega arith
 
--- src/irq2.rt:13:5
 loop-again : tie.Need-loop-again Inv-loop μ-loop
 loop-again c = scan-turned (c .before .before .before .before .loop .inv) (omega arith) (omega arith)
 
--- src/irq2.rt:9:1
 returns-2 : tie.Need-returns-2 Inv-loop μ-loop
 returns-2 c = scan-finished (c .before .loop .inv) (omega arith)
 

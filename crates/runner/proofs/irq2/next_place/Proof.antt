@@ -1,18 +1,14 @@
+-- `runner::irq2::next_place` meets its contract.
 use borrow.Author.Needs.{needs}
 use Rattle.runner.proofs.irq2.next_place.Statement.{statement}
 use Rattle.runner.proofs.irq2.next_place.Tie as tie
-use Rattle.runner.proofs.irq2.next_place.Reads as reads
-use Rattle.runner.proofs.irq2.next_place.Lts as lts
 
--- src/irq2.rt:56:14
 add-result : tie.Need-add-result
 add-result c = search needs
 
--- src/irq2.rt:52:1
 returns : tie.Need-returns
 returns c = rw (c .if1 .taken)
 
--- src/irq2.rt:52:1
 returns-2 : tie.Need-returns-2
 returns-2 c = search needs
 

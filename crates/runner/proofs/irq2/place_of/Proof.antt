@@ -1,10 +1,9 @@
+-- `runner::irq2::place_of` meets its contract.
+use Prim.Native.Nat.{_-_}
 use native.Mathlib.Omega.{arith}
 use Rattle.runner.proofs.Irq2Laws.{rises, Between, between-begun, between-up, between-down, between-found}
-use Prim.Native.Nat.{_-_}
 use Rattle.runner.proofs.irq2.place_of.Statement.{statement}
 use Rattle.runner.proofs.irq2.place_of.Tie as tie
-use Rattle.runner.proofs.irq2.place_of.Reads as reads
-use Rattle.runner.proofs.irq2.place_of.Lts as lts
 
 abbrev Inv-loop : tie.InvT-loop
 Inv-loop cycles c low₀ high₀ low high = Between c low high cycles
@@ -12,47 +11,36 @@ Inv-loop cycles c low₀ high₀ low high = Between c low high cycles
 abbrev μ-loop : tie.MeasureT-loop
 μ-loop cycles c low₀ high₀ low high = high - low
 
--- src/irq2.rt:29:5
 loop-holds : tie.Need-loop-holds Inv-loop μ-loop
 loop-holds c = between-begun _ _
 
--- src/irq2.rt:30:29
 sub-middle : tie.Need-sub-middle Inv-loop μ-loop
 sub-middle c = c .before .loop .inv .order
 
--- src/irq2.rt:30:22
 add-middle : tie.Need-add-middle Inv-loop μ-loop
 add-middle c = omega arith
 
--- src/irq2.rt:31:12
 mul-if1 : tie.Need-mul-if1 Inv-loop μ-loop
 mul-if1 c = record { fits = omega arith }
 
--- src/irq2.rt:31:12
 shared-slice-read-if1 : tie.Need-shared-slice-read-if1 Inv-loop μ-loop
 shared-slice-read-if1 c = let size = c .before .before .loop .inv .within in omega arith
 
--- src/irq2.rt:32:19
 add-low : tie.Need-add-low Inv-loop μ-loop
 add-low c = omega arith
 
--- src/irq2.rt:29:5
 loop-less : tie.Need-loop-less Inv-loop μ-loop
 loop-less c = omega arith
 
--- src/irq2.rt:29:5
 loop-again : tie.Need-loop-again Inv-loop μ-loop
 loop-again c = between-up (c .before .before .before .loop .inv) (rises _ (c .before .before .before .before .pre)) _ (omega arith) (omega arith) (c .if1 .taken)
 
--- src/irq2.rt:29:5
 loop-less-2 : tie.Need-loop-less-2 Inv-loop μ-loop
 loop-less-2 c = omega arith
 
--- src/irq2.rt:29:5
 loop-again-2 : tie.Need-loop-again-2 Inv-loop μ-loop
 loop-again-2 c = between-down (c .before .before .before .loop .inv) (rises _ (c .before .before .before .before .pre)) _ (omega arith) (omega arith) (omega arith)
 
--- src/irq2.rt:23:1
 returns : tie.Need-returns Inv-loop μ-loop
 returns c = between-found (c .before .loop .inv) (omega arith)
 

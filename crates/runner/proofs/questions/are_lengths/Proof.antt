@@ -1,23 +1,17 @@
-use borrow.Author.Tests.{ne-eqb, eq-eqb}
-use native.Mathlib.Omega.{arith}
+-- `runner::questions::are_lengths` meets its contract.
+use borrow.Author.Tests.{ne-eqb}
 use Rattle.runner.proofs.questions.are_lengths.Statement.{statement}
 use Rattle.runner.proofs.questions.are_lengths.Tie as tie
-use Rattle.runner.proofs.questions.are_lengths.Reads as reads
-use Rattle.runner.proofs.questions.are_lengths.Lts as lts
 
--- src/questions.rt:31:9
 returns : tie.Need-returns
 returns c = rw (ne-eqb _ _ (c .if1 .taken))
 
--- src/questions.rt:34:9
 returns-2 : tie.Need-returns-2
 returns-2 c = rw (c .before .if1 .left, ne-eqb _ _ (c .if2 .taken))
 
--- src/questions.rt:37:9
 returns-3 : tie.Need-returns-3
 returns-3 c = rw (c .before .before .if1 .left, c .before .if2 .left, ne-eqb _ _ (c .if3 .taken))
 
--- src/questions.rt:27:1
 returns-4 : tie.Need-returns-4
 returns-4 c = rw (c .before .before .if1 .left, c .before .if2 .left, c .if3 .left)
 

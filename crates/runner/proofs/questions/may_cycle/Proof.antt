@@ -1,35 +1,25 @@
-use Rattle.runner.proofs.GoLaws.{counted-yes}
-use Rattle.runner.proofs.GoLaws.{enough, counted-room}
-use borrow.Author.Tests.{eq-eqb}
+-- `runner::questions::may_cycle` meets its contract.
 use denote.Ref.{now}
-use borrow.Author.Tests.{ne-eqb, le-leb, lt-leb}
-use native.Mathlib.Omega.{arith}
+use borrow.Author.Tests.{eq-eqb, ne-eqb}
 use borrow.Author.Needs.{needs}
+use Rattle.runner.proofs.GoLaws.{counted-yes, enough, counted-room}
 use Rattle.runner.proofs.questions.may_cycle.Statement.{statement}
 use Rattle.runner.proofs.questions.may_cycle.Tie as tie
-use Rattle.runner.proofs.questions.may_cycle.Reads as reads
-use Rattle.runner.proofs.questions.may_cycle.Lts as lts
-use Rattle.simulator.proofs.lengths.lines_length.Reads as lines-length-reads
 
--- src/questions.rt:57:9
 returns : tie.Need-returns
 returns c = λ memory disk frame. rw (ne-eqb _ _ (c .if1 .taken))
 
--- src/questions.rt:60:9
 returns-2 : tie.Need-returns-2
 returns-2 c = λ memory disk frame. rw (c .before .before .if1 .left, c .if2 .taken)
 
--- src/questions.rt:63:9
 returns-3 : tie.Need-returns-3
 returns-3 c = λ memory disk frame.
     let a = c .before .before .before .before .before .before .args in
     counted-yes _ _ _ (eq-eqb _ _ (c .before .before .before .if1 .left)) (ne-eqb _ _ (c .before .if2 .left)) (enough (now (a .image)) (a .hit) (a .c) (now (a .regs)) (now (a .io)) memory disk frame (a .room) (c .before .before .before .before .before .before .pre .0) (c .if3 .taken))
 
--- src/questions.rt:65:5
 lines-length-requires : tie.Need-lines-length-requires
 lines-length-requires c κs = search needs
 
--- src/questions.rt:44:1
 returns-4 : tie.Need-returns-4
 returns-4 c = λ memory disk frame.
     counted-room _ _ _ _ _ (eq-eqb _ _ (c .before .before .before .before .if1 .left)) (ne-eqb _ _ (c .before .before .if2 .left)) (c .lines-length .ensures memory disk frame)

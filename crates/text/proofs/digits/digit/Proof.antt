@@ -5,8 +5,6 @@ use Rattle.text.proofs.DigitLaws.{digit-is}
 use Rattle.text.proofs.digits.digit.Statement.{statement}
 use Rattle.text.proofs.digits.digit.Tie as tie
 
--- `text::digits::digit` meets its contract.
-
 add-result : tie.Need-add-result
 add-result c = search needs
 

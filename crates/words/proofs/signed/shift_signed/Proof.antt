@@ -1,9 +1,9 @@
 -- `words::signed::shift_signed` meets its contract.
 use Prim.Native.Nat.{_^_}
 use mathlib.Core.Path.{ap, _∙_}
+use borrow.Author.Needs.{needs}
 use mir.Syntax.{w32}
 use mir.Val.{ofZ}
-use borrow.Author.Needs.{needs}
 use Rattle.words.proofs.WordLaws.{shifted}
 use Rattle.words.proofs.signed.shift_signed.Statement.{statement}
 use Rattle.words.proofs.signed.shift_signed.Tie as tie

@@ -3,9 +3,9 @@ use Prim.Native.Nat.{_-_, _^_}
 use mathlib.Core.Path.{ap}
 use native.Mathlib.Omega.{arith}
 use lib.Arith.{sub-sub-self}
+use borrow.Author.Needs.{needs}
 use mir.Syntax.{w32}
 use mir.Val.{toZ}
-use borrow.Author.Needs.{needs}
 use Rattle.words.proofs.signed.signed.Statement.{statement}
 use Rattle.words.proofs.signed.signed.Tie as tie
 

@@ -1,7 +1,7 @@
 -- `words::signed::unsigned` meets its contract.
 use native.Mathlib.Omega.{arith}
-use mir.Facts.{fits-ofZ}
 use borrow.Author.Needs.{needs}
+use mir.Facts.{fits-ofZ}
 use Rattle.words.proofs.WordLaws.{turned, plain}
 use Rattle.words.proofs.signed.unsigned.Statement.{statement}
 use Rattle.words.proofs.signed.unsigned.Tie as tie

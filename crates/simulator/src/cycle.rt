@@ -43,7 +43,7 @@ pub fn cycle(
     frame: &mut [u8],
     log: &mut [u8],
     at: usize,
-    table: &[u16; 256],
+    table: &[u64; 256],
 ) -> Step
     requires { ⌜ Sound c (drop 3 (now regs)) (now io) ⌝ }
     requires { ⌜ (length (now image) ≡ 4096) × (Kept (now regs) (now text) × (HexPairs (now table) × Sized (now memory) (now disk) (now frame))) ⌝ }
@@ -85,7 +85,7 @@ fn fetch_and_execute(
     frame: &mut [u8],
     log: &mut [u8],
     at: usize,
-    table: &[u16; 256],
+    table: &[u64; 256],
 ) -> Step
     requires { ⌜ (c .pc < 4096) × (length (now image) ≡ 4096) ⌝ }
     requires { ⌜ Kept (now regs) (now text) × (HexPairs (now table) × Ready (now io) (now memory) (now disk) (now frame)) ⌝ }
@@ -135,7 +135,7 @@ fn put_lines(
     regs: &[u32; 16],
     text: &[u8; 118],
     io: &[u32; 23],
-    table: &[u16; 256],
+    table: &[u64; 256],
 ) -> usize
     requires { ⌜ (at + length (lineT (c .pc) word (now regs) ++ ioLines (c .age) (operationOf op) o (now io)) ≤ length (now log)) × (Kept (now regs) (now text) × HexPairs (now table)) ⌝ }
     ensures { λ r. ⌜ (now (log .exit) ≡ put (now (log .entry)) at (lineT (c .pc) word (now (regs .entry)) ++ ioLines (c .age) (operationOf op) o (now (io .entry)))) × (r ≡ at + length (lineT (c .pc) word (now (regs .entry)) ++ ioLines (c .age) (operationOf op) o (now (io .entry)))) ⌝ }

@@ -2,10 +2,10 @@
 use Prim.Native.Nat.{ℕ, zero, suc, _+_, _*_, _/_, _%_, _^_, _<_}
 use mathlib.Core.Path.{_≡_, refl, sym, _∙_, ap}
 use mathlib.Core.List.{List, _∷_, _++_}
-use native.Mathlib.Nat.{zero-add, suc-add, add-mul-mod-self-right, add-mul-div-right, mod-eq-of-lt, div-eq-of-lt, div-one, div-div-eq-div-mul, pow-zero, pow-succ', mod-lt}
+use native.Mathlib.Nat.{zero-add, suc-add, add-mul-mod-self-right, add-mul-div-right, mod-eq-of-lt, div-eq-of-lt, div-one, div-div-eq-div-mul, pow-zero, pow-succ', mod-lt, pow-suc}
 use native.Mathlib.Omega.{arith}
 use lib.ListN.{length, getD}
-use Rattle.text.specs.Numerals.{digit, digits, lowBytes, HexPairs}
+use Rattle.text.specs.Numerals.{digit, digits, lowBytes, HexDigits, HexPairs}
 use Rattle.text.specs.Place.{put}
 use Rattle.text.proofs.PutLaws.{put-append}
 use Rattle.text.proofs.DigitLaws.{digit-lt, digits-split, digits-low}
@@ -39,6 +39,13 @@ low-front k c u h = rw (add-mul-mod-self-right c u 256, mod-eq-of-lt h, add-mul-
 abbrev pub pair : ℕ → ℕ
 pair n = digit (n / 16) + digit (n % 16) * 256
 
+-- It fills two bytes at most.
+pair-lt : (n : ℕ) → n < 256 → pair n < 65536
+pair-lt n h =
+    let first = digit-lt (n / 16) (omega arith) in
+    let second = digit-lt (n % 16) (omega arith) in
+    omega arith
+
 -- A pair below the other bytes.
 low-pair : (k n u : ℕ) → n < 256 → lowBytes (suc (suc k)) (pair n + u * 65536) ≡ digits 16 2 n ++ lowBytes k u
 unfolding digits
@@ -57,10 +64,23 @@ pair-front k x u q =
     ∙ rw (q, digits-low 16 (omega arith) 2 (x / 16 ^ k), ← digits-low 16 (omega arith) k x)
     (sym (ap (λ (n : ℕ). digits 16 n x) two ∙ digits-split 16 (omega arith) 2 k x))
 
+-- The bytes of a pair are the digits.
+pub pair-bytes : (n : ℕ) → n < 256 → lowBytes 2 (pair n) ≡ digits 16 2 n
+unfolding lowBytes digits
+pair-bytes n h = let alone : pair n ≡ pair n + 0 * 65536 = omega arith in ap (λ (v : ℕ). lowBytes 2 v) alone ∙ low-pair 0 n 0 h
+
 -- The last k pairs of digits of x in a number, the first in its low byte.
 abbrev pub paired : ℕ → ℕ → ℕ
 paired zero x = 0
 paired (suc k) x = pair (x / 16 ^ (k * 2) % 256) + paired k x * 65536
+
+-- They fill two bytes each.
+pub paired-lt : (k x : ℕ) → paired k x < 65536 ^ k
+paired-lt zero x = omega arith
+paired-lt (suc k) x =
+    let first = pair-lt (x / 16 ^ (k * 2) % 256) (mod-lt (x / 16 ^ (k * 2)) (omega arith)) in
+    let rest = paired-lt k x in
+    rw pow-suc (omega arith)
 
 -- Its bytes are the digits.
 pub paired-bytes : (k x : ℕ) → lowBytes (k * 2) (paired k x) ≡ digits 16 (k * 2) x
@@ -80,3 +100,11 @@ entries-sum t x w h =
     let d = w (x % 256) (omega arith) in
     let first : x / 16777216 % 256 ≡ x / 16777216 = mod-eq-of-lt {m = 256} (omega arith) in
     rw (first, div-one) (omega arith)
+
+-- The pair of a byte from the sixteen digits, which fits 64 bits.
+module _ (one : List ℕ) (n : ℕ) (w : HexDigits one) (h : n < 256) where
+  pub pair-of-digits : getD one (n / 16) 0 + getD one (n % 16) 0 * 256 ≡ pair n
+  pair-of-digits = rw (w (n / 16) (omega arith), w (n % 16) (omega arith))
+
+  pub pair-fits : getD one (n / 16) 0 + getD one (n % 16) 0 * 256 < 65536
+  pair-fits = rw pair-of-digits (pair-lt n h)

@@ -71,6 +71,10 @@ decimal v = digits 10 (digitCount 10 v) v
 abbrev pub DigitValues : List ℕ → Type 0
 DigitValues t = (c : ℕ) → c < 256 → getD t c 0 ≡ digitValue c
 
+-- Entry n is the hexadecimal digit n.
+abbrev pub HexDigits : List ℕ → Type 0
+HexDigits t = (n : ℕ) → n < 16 → getD t n 0 ≡ digit n
+
 -- Entry n has the two hexadecimal digits of the byte n, the first of them in its low byte.
 abbrev pub HexPairs : List ℕ → Type 0
 HexPairs t = (n : ℕ) → n < 256 → getD t n 0 ≡ digit (n / 16) + digit (n % 16) * 256

@@ -4,7 +4,7 @@ use mathlib.Core.Path.{_∙_, ap}
 use native.Mathlib.Omega.{arith}
 use borrow.Author.Needs.{needs}
 use Rattle.text.specs.Numerals.{lowBytes}
-use Rattle.text.proofs.HexWordLaws.{entries-sum, paired-bytes}
+use Rattle.text.proofs.HexWordLaws.{entries-sum, paired-lt, paired-bytes}
 use Rattle.text.proofs.hex_words.hex_word.Statement.{statement}
 use Rattle.text.proofs.hex_words.hex_word.Tie as tie
 
@@ -45,7 +45,9 @@ element-copy-out-d : tie.Need-element-copy-out-d
 element-copy-out-d c = search needs
 
 join-requires : tie.Need-join-requires
-join-requires c κs = search needs
+join-requires c κs =
+    let s = c .before .before .before .before in
+    rw (entries-sum (s .args .pairs .now) (s .args .x) (s .pre) (omega arith)) (paired-lt 4 (s .args .x))
 
 returns : tie.Need-returns
 returns c =

@@ -16,22 +16,22 @@ digit-requires c κs = search needs
 slice-write-out : tie.Need-slice-write-out
 slice-write-out c = search needs
 
-add-put-pair : tie.Need-add-put-pair
-add-put-pair c = search needs
+add-put-hex-byte : tie.Need-add-put-hex-byte
+add-put-hex-byte c = search needs
 
-cast-put-pair : tie.Need-cast-put-pair
-cast-put-pair c = search needs
+cast-put-hex-byte : tie.Need-cast-put-hex-byte
+cast-put-hex-byte c = search needs
 
-put-pair-requires : tie.Need-put-pair-requires
-put-pair-requires c κs = (simp length-set (omega arith), (omega arith, c .before .before .before .pre .1))
+put-hex-byte-requires : tie.Need-put-hex-byte-requires
+put-hex-byte-requires c κs = (simp length-set (omega arith), (omega arith, c .before .before .before .pre .1))
 
 same-length : tie.Need-same-length
-same-length c = c .before .before .put-pair .kept .0 ∙ simp length-set
+same-length c = c .before .before .put-hex-byte .kept .0 ∙ simp length-set
 
 returns : tie.Need-returns
 returns c =
     let a = c .before .before .before .before .before .before .args in
-    pc-laid (a .pc) (c .before .before .before .before .digit .result) (a .at) (a .out .now) _ (c .before .before .before .before .digit .ensures) (c .before .before .put-pair .ensures)
+    pc-laid (a .pc) (c .before .before .before .before .digit .result) (a .at) (a .out .now) _ (c .before .before .before .before .digit .ensures) (c .before .before .put-hex-byte .ensures)
 
 pub put-pc-spec : {M : Type 1} → statement M
 put-pc-spec =
@@ -40,8 +40,8 @@ put-pc-spec =
     cast-digit
     digit-requires
     slice-write-out
-    add-put-pair
-    cast-put-pair
-    put-pair-requires
+    add-put-hex-byte
+    cast-put-hex-byte
+    put-hex-byte-requires
     same-length
     returns)

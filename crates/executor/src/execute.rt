@@ -12,7 +12,7 @@ use machine::Core;
 use machine::Operands;
 ghost use mathlib.Core.Path.{_≡_};
 ghost use Prim.Native.Nat.{_<_};
-ghost use Rattle.text.specs.Numerals.{HexPairs};
+ghost use Rattle.text.specs.Numerals.{HexWords};
 ghost use Rattle.isa.specs.Operations.{operationOf};
 ghost use Rattle.machine.specs.Execution.{executed};
 ghost use Rattle.executor.specs.Lent.{packed, Kept, Ready};
@@ -28,9 +28,9 @@ pub fn execute(
     memory: &mut [u32],
     disk: &mut [u32],
     frame: &mut [u8],
-    table: &[u64; 256],
+    table: &[u32; 512],
 ) -> Core
-    requires { ⌜ (o .target < 16) × (Kept (now regs) (now text) × (HexPairs (now table) × Ready (now io) (now memory) (now disk) (now frame))) ⌝ }
+    requires { ⌜ (o .target < 16) × (Kept (now regs) (now text) × (HexWords (now table) × Ready (now io) (now memory) (now disk) (now frame))) ⌝ }
     ensures { λ r. ⌜ (packed r (now (regs .exit)) (now (io .exit)) (now (memory .exit)) (now (disk .exit)) (now (frame .exit)) ≡ executed (operationOf op) o (packed c (now (regs .entry)) (now (io .entry)) (now (memory .entry)) (now (disk .entry)) (now (frame .entry)))) × Kept (now (regs .exit)) (now (text .exit)) ⌝ }
 {
     match op {

@@ -15,7 +15,7 @@ ghost use mathlib.Core.Path.{_≡_};
 ghost use mathlib.Core.List.{List};
 ghost use Prim.Native.Nat.{ℕ, _≤_, _<_};
 ghost use lib.ListN.{length};
-ghost use Rattle.text.specs.Numerals.{HexPairs};
+ghost use Rattle.text.specs.Numerals.{HexWords};
 ghost use Rattle.isa.specs.Operations.{operationOf, jal, lw, sw, reti, input as inputOperation};
 ghost use Rattle.machine.specs.Execution.{executed};
 ghost use Rattle.executor.specs.Lent.{packed, Kept};
@@ -30,9 +30,9 @@ pub fn calculation(
     o: Operands,
     regs: &mut [u32; 16],
     text: &mut [u8; 118],
-    table: &[u64; 256],
+    table: &[u32; 512],
 ) -> Core
-    requires { ⌜ (op < 9) × ((o .target < 16) × (Kept (now regs) (now text) × HexPairs (now table))) ⌝ }
+    requires { ⌜ (op < 9) × ((o .target < 16) × (Kept (now regs) (now text) × HexWords (now table))) ⌝ }
     ensures { λ r. ⌜ ((io memory disk frame : List ℕ) → packed r (now (regs .exit)) io memory disk frame ≡ executed (operationOf op) o (packed c (now (regs .entry)) io memory disk frame)) × Kept (now (regs .exit)) (now (text .exit)) ⌝ }
 {
     put_register(regs, text, o.target, calculate(op, o.rs, o.rt, o.rm), table);
@@ -56,9 +56,9 @@ pub fn link(
     o: Operands,
     regs: &mut [u32; 16],
     text: &mut [u8; 118],
-    table: &[u64; 256],
+    table: &[u32; 512],
 ) -> Core
-    requires { ⌜ (o .target < 16) × (Kept (now regs) (now text) × HexPairs (now table)) ⌝ }
+    requires { ⌜ (o .target < 16) × (Kept (now regs) (now text) × HexWords (now table)) ⌝ }
     ensures { λ r. ⌜ ((io memory disk frame : List ℕ) → packed r (now (regs .exit)) io memory disk frame ≡ executed jal o (packed c (now (regs .entry)) io memory disk frame)) × Kept (now (regs .exit)) (now (text .exit)) ⌝ }
 {
     put_register(regs, text, o.target, next(c), table);
@@ -72,9 +72,9 @@ pub fn load(
     regs: &mut [u32; 16],
     text: &mut [u8; 118],
     memory: &[u32],
-    table: &[u64; 256],
+    table: &[u32; 512],
 ) -> Core
-    requires { ⌜ (o .target < 16) × (Kept (now regs) (now text) × (HexPairs (now table) × (length (now memory) ≡ 4096))) ⌝ }
+    requires { ⌜ (o .target < 16) × (Kept (now regs) (now text) × (HexWords (now table) × (length (now memory) ≡ 4096))) ⌝ }
     ensures { λ r. ⌜ ((io disk frame : List ℕ) → packed r (now (regs .exit)) io (now (memory .entry)) disk frame ≡ executed lw o (packed c (now (regs .entry)) io (now (memory .entry)) disk frame)) × Kept (now (regs .exit)) (now (text .exit)) ⌝ }
 {
     let a = plus(o.rs, o.rt);
@@ -118,9 +118,9 @@ pub fn input(
     regs: &mut [u32; 16],
     text: &mut [u8; 118],
     io: &[u32; 23],
-    table: &[u64; 256],
+    table: &[u32; 512],
 ) -> Core
-    requires { ⌜ (o .target < 16) × (Kept (now regs) (now text) × HexPairs (now table)) ⌝ }
+    requires { ⌜ (o .target < 16) × (Kept (now regs) (now text) × HexWords (now table)) ⌝ }
     ensures { λ r. ⌜ ((memory disk frame : List ℕ) → packed r (now (regs .exit)) (now (io .entry)) memory disk frame ≡ executed inputOperation o (packed c (now (regs .entry)) (now (io .entry)) memory disk frame)) × Kept (now (regs .exit)) (now (text .exit)) ⌝ }
 {
     let a = plus(o.rs, o.rt);

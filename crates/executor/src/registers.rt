@@ -3,7 +3,7 @@ use trace::registers::keep_register;
 ghost use mathlib.Core.Path.{_≡_};
 ghost use Prim.Native.Nat.{_<_};
 ghost use lib.ListN.{drop};
-ghost use Rattle.text.specs.Numerals.{HexPairs};
+ghost use Rattle.text.specs.Numerals.{HexWords};
 ghost use Rattle.executor.specs.Lent.{Kept, stored};
 
 // R[n] becomes x; R0, R1 and R2 don't change.
@@ -12,9 +12,9 @@ pub fn put_register(
     text: &mut [u8; 118],
     n: usize,
     x: u32,
-    table: &[u64; 256],
+    table: &[u32; 512],
 )
-    requires { ⌜ (n < 16) × (Kept (now regs) (now text) × HexPairs (now table)) ⌝ }
+    requires { ⌜ (n < 16) × (Kept (now regs) (now text) × HexWords (now table)) ⌝ }
     ensures { λ _. ⌜ (now (regs .exit) ≡ stored n x (now (regs .entry))) × Kept (now (regs .exit)) (now (text .exit)) ⌝ }
 {
     if n < 3 {

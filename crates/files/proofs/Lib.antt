@@ -6,3 +6,4 @@ pub mod SizeLaws
 pub mod AnswerLaws
 pub mod Irq2Laws
 pub mod ReturnTrip
+pub mod CutLaws

@@ -1,8 +1,6 @@
 // Runs one after the other from the fresh record: what bench/ measures, and what demand 3 says of real calls.
-use machine::Core;
-use machine::Record;
 use runner::run;
-ghost use mathlib.Core.Path.{_≡_};
+use saved::fresh_record;
 ghost use Rattle.saved.specs.Calls.{freshRecord};
 ghost use Rattle.runner.specs.Lab.{standingOf};
 ghost use Rattle.run_bench.specs.ByCalls.{ByCalls, ByOneRun, standsWith};
@@ -20,7 +18,16 @@ pub extern "C" fn simp_bench_run(
 ) -> usize
     ensures { λ r. ⌜ ByOneRun (now (irq2 .entry)) budget (now (log .entry)) (standingOf (now (image .entry)) freshRecord (now (memory .entry)) (now (disk .entry)) (now (frame .entry))) r (now (log .exit)) (standsWith (now (image .entry)) (now (memory .exit)) (now (disk .exit)) (now (frame .exit))) ⌝ }
 {
-    let r = run(fresh(), image, memory, disk, frame, irq2, budget, log);
+    let r = run(
+        fresh_record(),
+        image,
+        memory,
+        disk,
+        frame,
+        irq2,
+        budget,
+        log,
+    );
     r.bytes
 }
 
@@ -37,7 +44,7 @@ pub extern "C" fn simp_bench_runs(
 ) -> u64
     ensures { λ r. ⌜ ByCalls (now (irq2 .entry)) (standingOf (now (image .entry)) freshRecord (now (memory .entry)) (now (disk .entry)) (now (frame .entry))) r (standsWith (now (image .entry)) (now (memory .exit)) (now (disk .exit)) (now (frame .exit))) ⌝ }
 {
-    let mut state = fresh();
+    let mut state = fresh_record();
     let mut left = budget;
     while 0 < left {
         let r = run(state, image, memory, disk, frame, irq2, left, log);
@@ -49,22 +56,4 @@ pub extern "C" fn simp_bench_runs(
         left -= r.cycles;
     }
     budget
-}
-
-// The fresh record.
-fn fresh() -> Record
-    ensures { λ r. ⌜ r ≡ freshRecord ⌝ }
-{
-    let core = Core {
-        status: 0,
-        handler: 0,
-        pc: 0,
-        age: 0,
-        left: 0,
-    };
-    Record {
-        core: core,
-        regs: [0; 13],
-        io: [0; 23],
-    }
 }

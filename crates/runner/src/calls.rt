@@ -8,7 +8,7 @@ use crate::registers::all_registers;
 use crate::registers::kept_registers;
 use machine::Record;
 use saved::is_sound;
-use text::hex_words::wide_pairs;
+use text::hex_words::hex_words;
 use trace::registers::lay_registers;
 ghost use mathlib.Core.Path.{_≡_};
 ghost use mathlib.Core.Bool.{true};
@@ -72,7 +72,7 @@ fn run_sound(
     requires { ⌜ (isSound state ≡ true) × ((rising (now irq2) ≡ true) × ((length (now image) ≡ 4096) × Sized (now memory) (now disk) (now frame))) ⌝ }
     ensures { λ r. ⌜ doneOf r (now (image .entry)) (now (memory .exit)) (now (disk .exit)) (now (frame .exit)) (now (log .exit)) ≡ ran lab (standingOf (now (image .entry)) state (now (memory .entry)) (now (disk .entry)) (now (frame .entry))) (now (log .entry)) (runFrom simp (codeOf (now (image .entry)) (now (irq2 .entry))) budget (length (now (log .entry))) (machineOf state (now (memory .entry)) (now (disk .entry)) (now (frame .entry)))) ⌝ }
 {
-    let table = wide_pairs();
+    let table = hex_words();
     let kept = state.regs;
     let mut regs = all_registers(kept);
     let mut io = state.io;

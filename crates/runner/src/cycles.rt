@@ -10,7 +10,7 @@ use simulator::cycle::cycle;
 ghost use mathlib.Core.Path.{_≡_};
 ghost use mathlib.Core.Bool.{true};
 ghost use lib.ListN.{length, drop};
-ghost use Rattle.text.specs.Numerals.{HexPairs};
+ghost use Rattle.text.specs.Numerals.{HexWords};
 ghost use Rattle.files.specs.Irq2File.{rising};
 ghost use Rattle.machine.specs.Soundness.{Sound};
 ghost use Rattle.executor.specs.Lent.{packed, Kept, Sized};
@@ -30,10 +30,10 @@ pub fn make_cycles(
     irq2: &[u64],
     budget: u64,
     log: &mut [u8],
-    table: &[u64; 256],
+    table: &[u32; 512],
 ) -> Ended
     requires { ⌜ Sound start (drop 3 (now regs)) (now io) × (rising (now irq2) ≡ true) ⌝ }
-    requires { ⌜ (length (now image) ≡ 4096) × (Kept (now regs) (now text) × (HexPairs (now table) × Sized (now memory) (now disk) (now frame))) ⌝ }
+    requires { ⌜ (length (now image) ≡ 4096) × (Kept (now regs) (now text) × (HexWords (now table) × Sized (now memory) (now disk) (now frame))) ⌝ }
     ensures { λ r. ⌜ EndsRun (codeOf (now (image .entry)) (now (irq2 .entry))) budget (now (log .entry)) (packed start (now (regs .entry)) (now (io .entry)) (now (memory .entry)) (now (disk .entry)) (now (frame .entry))) r (packed (r .core) (now (regs .exit)) (now (io .exit)) (now (memory .exit)) (now (disk .exit)) (now (frame .exit))) (now (log .exit)) ⌝ }
 {
     let mut c = start;

@@ -3,11 +3,13 @@ use machine::Record;
 
 mod copies;
 mod fields;
+mod fresh;
 mod layout;
 mod loading;
 mod saving;
 mod sound;
 
+pub use fresh::fresh_record;
 pub use loading::load;
 pub use saving::save;
 pub use sound::is_sound;

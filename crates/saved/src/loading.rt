@@ -2,12 +2,11 @@
 use crate::LoadAnswer;
 use crate::Loaded;
 use crate::fields::record_of;
+use crate::fresh::fresh_record;
 use crate::layout::BYTES;
 use crate::layout::EDITION;
 use crate::layout::WIDTHS;
 use crate::sound::is_possible;
-use machine::Core;
-use machine::Record;
 ghost use mathlib.Core.Path.{_≡_};
 ghost use Rattle.saved.specs.Answers.{loadedTold};
 ghost use Rattle.saved.specs.Calls.{freshRecord, loadTold, loadRecord};
@@ -38,18 +37,7 @@ pub fn load(bytes: &[u8]) -> Loaded
 fn refused(answer: LoadAnswer) -> Loaded
     ensures { λ r. ⌜ (r .state ≡ freshRecord) × (r .answer ≡ answer) ⌝ }
 {
-    let core = Core {
-        status: 0,
-        handler: 0,
-        pc: 0,
-        age: 0,
-        left: 0,
-    };
-    let state = Record {
-        core: core,
-        regs: [0; 13],
-        io: [0; 23],
-    };
+    let state = fresh_record();
     Loaded {
         state: state,
         answer: answer,

@@ -17,7 +17,7 @@ ghost use mathlib.Core.Path.{_≡_};
 ghost use mathlib.Core.List.{List, _++_};
 ghost use Prim.Native.Nat.{ℕ, _+_, _^_, _≤_, _<_};
 ghost use lib.ListN.{length, getD, drop};
-ghost use Rattle.text.specs.Numerals.{HexPairs};
+ghost use Rattle.text.specs.Numerals.{HexWords};
 ghost use Rattle.text.specs.Place.{put};
 ghost use Rattle.isa.specs.Word.{Fitting as FieldsFit};
 ghost use Rattle.isa.specs.Operations.{operationOf};
@@ -43,10 +43,10 @@ pub fn cycle(
     frame: &mut [u8],
     log: &mut [u8],
     at: usize,
-    table: &[u64; 256],
+    table: &[u32; 512],
 ) -> Step
     requires { ⌜ Sound c (drop 3 (now regs)) (now io) ⌝ }
-    requires { ⌜ (length (now image) ≡ 4096) × (Kept (now regs) (now text) × (HexPairs (now table) × Sized (now memory) (now disk) (now frame))) ⌝ }
+    requires { ⌜ (length (now image) ≡ 4096) × (Kept (now regs) (now text) × (HexWords (now table) × Sized (now memory) (now disk) (now frame))) ⌝ }
     requires { ⌜ at + length (linesAtFetch (now image) (atFetch hit (packed c (now regs) (now io) (now memory) (now disk) (now frame)))) ≤ length (now log) ⌝ }
     ensures { λ r. ⌜ traced (packed (r .core) (now (regs .exit)) (now (io .exit)) (now (memory .exit)) (now (disk .exit)) (now (frame .exit))) (now (log .exit)) (r .at) ≡ tracedOn (now (image .entry)) hit (traced (packed c (now (regs .entry)) (now (io .entry)) (now (memory .entry)) (now (disk .entry)) (now (frame .entry))) (now (log .entry)) at) ⌝ }
     ensures { λ r. ⌜ Kept (now (regs .exit)) (now (text .exit)) ⌝ }
@@ -85,10 +85,10 @@ fn fetch_and_execute(
     frame: &mut [u8],
     log: &mut [u8],
     at: usize,
-    table: &[u64; 256],
+    table: &[u32; 512],
 ) -> Step
     requires { ⌜ (c .pc < 4096) × (length (now image) ≡ 4096) ⌝ }
-    requires { ⌜ Kept (now regs) (now text) × (HexPairs (now table) × Ready (now io) (now memory) (now disk) (now frame)) ⌝ }
+    requires { ⌜ Kept (now regs) (now text) × (HexWords (now table) × Ready (now io) (now memory) (now disk) (now frame)) ⌝ }
     requires { ⌜ at + length (linesAtFetch (now image) (packed c (now regs) (now io) (now memory) (now disk) (now frame))) ≤ length (now log) ⌝ }
     ensures { λ r. ⌜ packed (r .core) (now (regs .exit)) (now (io .exit)) (now (memory .exit)) (now (disk .exit)) (now (frame .exit)) ≡ fetchedAndExecuted (now (image .entry)) (packed c (now (regs .entry)) (now (io .entry)) (now (memory .entry)) (now (disk .entry)) (now (frame .entry))) ⌝ }
     ensures { λ r. ⌜ (now (log .exit) ≡ put (now (log .entry)) at (linesAtFetch (now (image .entry)) (packed c (now (regs .entry)) (now (io .entry)) (now (memory .entry)) (now (disk .entry)) (now (frame .entry))))) × (r .at ≡ at + length (linesAtFetch (now (image .entry)) (packed c (now (regs .entry)) (now (io .entry)) (now (memory .entry)) (now (disk .entry)) (now (frame .entry))))) ⌝ }
@@ -135,9 +135,9 @@ fn put_lines(
     regs: &[u32; 16],
     text: &[u8; 118],
     io: &[u32; 23],
-    table: &[u64; 256],
+    table: &[u32; 512],
 ) -> usize
-    requires { ⌜ (at + length (lineT (c .pc) word (now regs) ++ ioLines (c .age) (operationOf op) o (now io)) ≤ length (now log)) × (Kept (now regs) (now text) × HexPairs (now table)) ⌝ }
+    requires { ⌜ (at + length (lineT (c .pc) word (now regs) ++ ioLines (c .age) (operationOf op) o (now io)) ≤ length (now log)) × (Kept (now regs) (now text) × HexWords (now table)) ⌝ }
     ensures { λ r. ⌜ (now (log .exit) ≡ put (now (log .entry)) at (lineT (c .pc) word (now (regs .entry)) ++ ioLines (c .age) (operationOf op) o (now (io .entry)))) × (r ≡ at + length (lineT (c .pc) word (now (regs .entry)) ++ ioLines (c .age) (operationOf op) o (now (io .entry)))) ⌝ }
 {
     let line = put_line_t(log, at, c.pc, word, regs[1], regs[2], text, table);

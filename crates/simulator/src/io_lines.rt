@@ -12,7 +12,7 @@ ghost use mathlib.Core.List.{[], _∷_};
 ghost use Prim.Native.Nat.{_+_, _≤_};
 ghost use lib.Dec.{eqb};
 ghost use lib.ListN.{length};
-ghost use Rattle.text.specs.Numerals.{HexPairs};
+ghost use Rattle.text.specs.Numerals.{HexWords};
 ghost use Rattle.text.specs.Place.{put};
 ghost use Rattle.isa.specs.Operations.{operationOf, input, output};
 ghost use Rattle.trace.specs.LogLines.{lineLD};
@@ -26,9 +26,9 @@ pub fn put_io_lines(
     op: u32,
     o: Operands,
     io: &[u32; 23],
-    table: &[u64; 256],
+    table: &[u32; 512],
 ) -> usize
-    requires { ⌜ (at + length (ioLines c (operationOf op) o (now io)) ≤ length (now log)) × HexPairs (now table) ⌝ }
+    requires { ⌜ (at + length (ioLines c (operationOf op) o (now io)) ≤ length (now log)) × HexWords (now table) ⌝ }
     ensures { λ r. ⌜ (now (log .exit) ≡ put (now (log .entry)) at (ioLines c (operationOf op) o (now (io .entry)))) × (r ≡ at + length (ioLines c (operationOf op) o (now (io .entry)))) ⌝ }
 {
     match op {
@@ -45,9 +45,9 @@ fn put_read_line(
     c: u64,
     o: Operands,
     io: &[u32; 23],
-    table: &[u64; 256],
+    table: &[u32; 512],
 ) -> usize
-    requires { ⌜ (at + length (ioLines c input o (now io)) ≤ length (now log)) × HexPairs (now table) ⌝ }
+    requires { ⌜ (at + length (ioLines c input o (now io)) ≤ length (now log)) × HexWords (now table) ⌝ }
     ensures { λ r. ⌜ (now (log .exit) ≡ put (now (log .entry)) at (ioLines c input o (now (io .entry)))) × (r ≡ at + length (ioLines c input o (now (io .entry)))) ⌝ }
 {
     let a = plus(o.rs, o.rt);
@@ -64,9 +64,9 @@ fn put_write_lines(
     c: u64,
     o: Operands,
     io: &[u32; 23],
-    table: &[u64; 256],
+    table: &[u32; 512],
 ) -> usize
-    requires { ⌜ (at + length (ioLines c output o (now io)) ≤ length (now log)) × HexPairs (now table) ⌝ }
+    requires { ⌜ (at + length (ioLines c output o (now io)) ≤ length (now log)) × HexWords (now table) ⌝ }
     ensures { λ r. ⌜ (now (log .exit) ≡ put (now (log .entry)) at (ioLines c output o (now (io .entry)))) × (r ≡ at + length (ioLines c output o (now (io .entry)))) ⌝ }
 {
     let a = plus(o.rs, o.rt);
@@ -85,9 +85,9 @@ fn put_change_line(
     n: u32,
     x: u32,
     io: &[u32; 23],
-    table: &[u64; 256],
+    table: &[u32; 512],
 ) -> usize
-    requires { ⌜ (at + length (changeLines c n x (now io)) ≤ length (now log)) × HexPairs (now table) ⌝ }
+    requires { ⌜ (at + length (changeLines c n x (now io)) ≤ length (now log)) × HexWords (now table) ⌝ }
     ensures { λ r. ⌜ (now (log .exit) ≡ put (now (log .entry)) at (changeLines c n x (now (io .entry)))) × (r ≡ at + length (changeLines c n x (now (io .entry)))) ⌝ }
 {
     match n {
@@ -105,9 +105,9 @@ fn put_if_new(
     c: u64,
     x: u32,
     before: u32,
-    table: &[u64; 256],
+    table: &[u32; 512],
 ) -> usize
-    requires { ⌜ (at + length (cond (not (eqb x before)) (lineLD (letter ∷ []) c x) []) ≤ length (now log)) × HexPairs (now table) ⌝ }
+    requires { ⌜ (at + length (cond (not (eqb x before)) (lineLD (letter ∷ []) c x) []) ≤ length (now log)) × HexWords (now table) ⌝ }
     ensures { λ r. ⌜ (now (log .exit) ≡ put (now (log .entry)) at (cond (not (eqb x before)) (lineLD (letter ∷ []) c x) [])) × (r ≡ at + length (cond (not (eqb x before)) (lineLD (letter ∷ []) c x) [])) ⌝ }
 {
     if x == before {

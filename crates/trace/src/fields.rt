@@ -9,14 +9,14 @@ ghost use mathlib.Core.List.{[], _∷_, _++_};
 ghost use Prim.Native.Nat.{_+_, _≤_};
 ghost use lib.ListN.{length};
 ghost use Rattle.text.specs.Lines.{LF as lf};
-ghost use Rattle.text.specs.Numerals.{digits, digitCount, decimal, HexPairs};
+ghost use Rattle.text.specs.Numerals.{digits, digitCount, decimal, HexWords};
 ghost use Rattle.text.specs.Place.{put};
 ghost use Rattle.isa.specs.Registers.{ioName};
 ghost use Rattle.trace.specs.LogLines.{field, wayOf};
 
 // A word in hexadecimal; returns the place after it.
-pub fn put_word(out: &mut [u8], at: usize, x: u32, table: &[u64; 256]) -> usize
-    requires { ⌜ (at + 9 ≤ length (now out)) × HexPairs (now table) ⌝ }
+pub fn put_word(out: &mut [u8], at: usize, x: u32, table: &[u32; 512]) -> usize
+    requires { ⌜ (at + 9 ≤ length (now out)) × HexWords (now table) ⌝ }
     ensures { λ r. ⌜ (now (out .exit) ≡ put (now (out .entry)) at (field (digits 16 8 x))) × (r ≡ at + 9) ⌝ }
 {
     out[at] = b' ';
@@ -25,8 +25,8 @@ pub fn put_word(out: &mut [u8], at: usize, x: u32, table: &[u64; 256]) -> usize
 }
 
 // A word in hexadecimal that ends its line; returns the place after the LF.
-pub fn put_last_word(out: &mut [u8], at: usize, x: u32, table: &[u64; 256]) -> usize
-    requires { ⌜ (at + 10 ≤ length (now out)) × HexPairs (now table) ⌝ }
+pub fn put_last_word(out: &mut [u8], at: usize, x: u32, table: &[u32; 512]) -> usize
+    requires { ⌜ (at + 10 ≤ length (now out)) × HexWords (now table) ⌝ }
     ensures { λ r. ⌜ (now (out .exit) ≡ put (now (out .entry)) at (field (digits 16 8 x) ++ (lf ∷ []))) × (r ≡ at + 10) ⌝ }
 {
     let end = put_word(out, at, x, table);

@@ -15,7 +15,7 @@ ghost use mathlib.Core.List.{[], _∷_, _++_};
 ghost use Prim.Native.Nat.{ℕ, _+_, _≤_};
 ghost use lib.ListN.{length};
 ghost use Rattle.text.specs.Bytes.{bytes};
-ghost use Rattle.text.specs.Numerals.{digits, HexPairs};
+ghost use Rattle.text.specs.Numerals.{digits, HexWords};
 ghost use Rattle.text.specs.Place.{put};
 ghost use Rattle.trace.specs.LogLines.{field, frontT, lineH, lineLD, wayOf};
 
@@ -28,9 +28,9 @@ pub fn put_line_t(
     imm1: u32,
     imm2: u32,
     kept: &[u8; 118],
-    table: &[u64; 256],
+    table: &[u32; 512],
 ) -> usize
-    requires { ⌜ (at + 163 ≤ length (now out)) × ((length (now kept) ≡ 118) × HexPairs (now table)) ⌝ }
+    requires { ⌜ (at + 163 ≤ length (now out)) × ((length (now kept) ≡ 118) × HexWords (now table)) ⌝ }
     ensures { λ r. ⌜ (now (out .exit) ≡ put (now (out .entry)) at (frontT pc word imm1 imm2 ++ now (kept .entry))) × (r ≡ at + 163) ⌝ }
 {
     put_instruction(out, at, pc, word, table);
@@ -39,8 +39,8 @@ pub fn put_line_t(
 }
 
 // The front of a T line, 18 bytes: its letter, PC and the word.
-fn put_instruction(out: &mut [u8], at: usize, pc: u32, word: u64, table: &[u64; 256])
-    requires { ⌜ (at + 18 ≤ length (now out)) × HexPairs (now table) ⌝ }
+fn put_instruction(out: &mut [u8], at: usize, pc: u32, word: u64, table: &[u32; 512])
+    requires { ⌜ (at + 18 ≤ length (now out)) × HexWords (now table) ⌝ }
     ensures { λ _. ⌜ now (out .exit) ≡ put (now (out .entry)) at (bytes "T" ++ field (digits 16 3 pc) ++ field (digits 16 12 word)) ⌝ }
 {
     out[at] = b'T';
@@ -51,8 +51,8 @@ fn put_instruction(out: &mut [u8], at: usize, pc: u32, word: u64, table: &[u64; 
 }
 
 // PC, 3 digits.
-fn put_pc(out: &mut [u8], at: usize, pc: u32, table: &[u64; 256])
-    requires { ⌜ (at + 3 ≤ length (now out)) × HexPairs (now table) ⌝ }
+fn put_pc(out: &mut [u8], at: usize, pc: u32, table: &[u32; 512])
+    requires { ⌜ (at + 3 ≤ length (now out)) × HexWords (now table) ⌝ }
     ensures { λ _. ⌜ now (out .exit) ≡ put (now (out .entry)) at (digits 16 3 pc) ⌝ }
 {
     out[at] = digit((pc / 256 % 16) as u8);
@@ -60,8 +60,8 @@ fn put_pc(out: &mut [u8], at: usize, pc: u32, table: &[u64; 256])
 }
 
 // The word, 12 digits.
-fn put_code(out: &mut [u8], at: usize, word: u64, table: &[u64; 256])
-    requires { ⌜ (at + 12 ≤ length (now out)) × HexPairs (now table) ⌝ }
+fn put_code(out: &mut [u8], at: usize, word: u64, table: &[u32; 512])
+    requires { ⌜ (at + 12 ≤ length (now out)) × HexWords (now table) ⌝ }
     ensures { λ _. ⌜ now (out .exit) ≡ put (now (out .entry)) at (digits 16 12 word) ⌝ }
 {
     put_hex_byte(out, at, (word / 0x100_0000_0000 % 256) as usize, table);
@@ -70,8 +70,8 @@ fn put_code(out: &mut [u8], at: usize, word: u64, table: &[u64; 256])
 }
 
 // R0, which is 0, and R1 and R2, the immediates: 27 bytes.
-fn put_low_registers(out: &mut [u8], at: usize, imm1: u32, imm2: u32, table: &[u64; 256])
-    requires { ⌜ (at + 27 ≤ length (now out)) × HexPairs (now table) ⌝ }
+fn put_low_registers(out: &mut [u8], at: usize, imm1: u32, imm2: u32, table: &[u32; 512])
+    requires { ⌜ (at + 27 ≤ length (now out)) × HexWords (now table) ⌝ }
     ensures { λ _. ⌜ now (out .exit) ≡ put (now (out .entry)) at (field (digits 16 8 0) ++ field (digits 16 8 imm1) ++ field (digits 16 8 imm2)) ⌝ }
 {
     put_word(out, at, 0, table);
@@ -87,9 +87,9 @@ pub fn put_line_h(
     writes: bool,
     n: u32,
     x: u32,
-    table: &[u64; 256],
+    table: &[u32; 512],
 ) -> usize
-    requires { ⌜ (at + length (lineH c (wayOf writes) n x) ≤ length (now out)) × HexPairs (now table) ⌝ }
+    requires { ⌜ (at + length (lineH c (wayOf writes) n x) ≤ length (now out)) × HexWords (now table) ⌝ }
     ensures { λ r. ⌜ (now (out .exit) ≡ put (now (out .entry)) at (lineH c (wayOf writes) n x)) × (r ≡ at + length (lineH c (wayOf writes) n x)) ⌝ }
 {
     let way_at = put_cycle(out, at, b'H', c);
@@ -105,9 +105,9 @@ pub fn put_line_ld(
     letter: u8,
     c: u64,
     x: u32,
-    table: &[u64; 256],
+    table: &[u32; 512],
 ) -> usize
-    requires { ⌜ (at + length (lineLD (letter ∷ []) c x) ≤ length (now out)) × HexPairs (now table) ⌝ }
+    requires { ⌜ (at + length (lineLD (letter ∷ []) c x) ≤ length (now out)) × HexWords (now table) ⌝ }
     ensures { λ r. ⌜ (now (out .exit) ≡ put (now (out .entry)) at (lineLD (letter ∷ []) c x)) × (r ≡ at + length (lineLD (letter ∷ []) c x)) ⌝ }
 {
     let value_at = put_cycle(out, at, letter, c);

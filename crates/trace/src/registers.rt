@@ -5,13 +5,13 @@ use text::lines::LF;
 ghost use mathlib.Core.Path.{_≡_};
 ghost use Prim.Native.Nat.{_+_, _*_, _<_};
 ghost use lib.ListN.{length, drop};
-ghost use Rattle.text.specs.Numerals.{digits, HexPairs};
+ghost use Rattle.text.specs.Numerals.{digits, HexWords};
 ghost use Rattle.text.specs.Place.{put};
 ghost use Rattle.trace.specs.LogLines.{registersText};
 
 // Lays the text of R3 to R15.
-pub fn lay_registers(kept: &mut [u8; 118], regs: &[u32; 16], table: &[u64; 256])
-    requires { ⌜ (length (now kept) ≡ 118) × ((length (now regs) ≡ 16) × HexPairs (now table)) ⌝ }
+pub fn lay_registers(kept: &mut [u8; 118], regs: &[u32; 16], table: &[u32; 512])
+    requires { ⌜ (length (now kept) ≡ 118) × ((length (now regs) ≡ 16) × HexWords (now table)) ⌝ }
     ensures { λ _. ⌜ now (kept .exit) ≡ registersText (drop 3 (now (regs .entry))) ⌝ }
 {
     let mut at = 0;
@@ -24,8 +24,8 @@ pub fn lay_registers(kept: &mut [u8; 118], regs: &[u32; 16], table: &[u64; 256])
 }
 
 // Changes the text where the register n of R3 to R15, counted from 0, becomes x (`text-set`).
-pub fn keep_register(kept: &mut [u8; 118], n: usize, x: u32, table: &[u64; 256])
-    requires { ⌜ (n < 13) × ((length (now kept) ≡ 118) × HexPairs (now table)) ⌝ }
+pub fn keep_register(kept: &mut [u8; 118], n: usize, x: u32, table: &[u32; 512])
+    requires { ⌜ (n < 13) × ((length (now kept) ≡ 118) × HexWords (now table)) ⌝ }
     ensures { λ _. ⌜ now (kept .exit) ≡ put (now (kept .entry)) (n * 9 + 1) (digits 16 8 x) ⌝ }
 {
     put_hex_word(kept, n * 9 + 1, x, table);

@@ -5,18 +5,19 @@ use mathlib.Core.Path.{_≡_, refl}
 use mathlib.Core.List.{List, [], _∷_, _++_}
 use lib.ListN.{replicate}
 use Rattle.text.specs.Bytes.{bytes}
-use Rattle.text.specs.Numerals.{digits}
+use Rattle.text.specs.Numerals.{digits, decimal, digitCount, digitCountUpTo}
 use Rattle.text.specs.Questions.{accepted}
 use Rattle.bitpack.specs.Bits.{bits}
 use Rattle.bitpack.specs.Packed.{bytesOf}
 use Rattle.isa.specs.Word.{wordOf}
 use Rattle.isa.specs.Operations.{operationOf, calculate, sub}
 use Rattle.isa.specs.Registers.{irq0status, irq1status, irq2status, irqreturn, clks, timerenable, timercurrent, timermax, diskcmd, diskstatus}
+use Rattle.summary.specs.Milliseconds.{milliseconds}
+use Rattle.summary.specs.ClosingLines.{lineE}
 use Rattle.saved.specs.Layout.{savedBytes}
 use Rattle.runner.specs.Lab.{recordIn}
 use Rattle.worked.specs.Cycles.{imageOf, freshWith, fresh, plainFrom, linesFrom, plain, linesAt, R, IO}
 use Rattle.worked.specs.Programs.{subtract, immediates, shifts, less, product, link, timer, disk, buffer3968, buffer3969, loads, twoLines, asksIrq2, ledsTwice, equalNotRd, unequalRd, opcode22}
-use Rattle.worked.specs.Milliseconds.{milliseconds}
 use Rattle.worked.specs.RunAbove.{inputTold, inputImage, runAbove, firstLines, printed, running, halted}
 
 abbrev pub timerRegisters : List ℕ
@@ -100,8 +101,7 @@ pub record Worked : Type 0 where
       ++ replicate 60 0
       ++ (0x01 ∷ 0x00 ∷ 0x00 ∷ 0x00 ∷ 0x02 ∷ 0x80 ∷ [])
       ++ replicate 17 0
-  -- "E 1 2 2": status and age are `halted`'s.
-  pub run-time : milliseconds 2 ≡ 2
+  pub run-closes : lineE (halted .core .status) (halted .core .age) ≡ bytes "E 1 2 2\n"
   -- "Mistakes to exclude: clearing the status bits on entry (001)": irq2 asks in cycle 4 at PC 4, all three status bits being 1; the cycle executes the
   -- handler's first word.
   pub entry-rises : plainFrom asksIrq2 (4 ∷ []) fresh 5 .core ≡ record { status = 0; handler = 1; pc = 0x21; age = 5; left = 0 }
@@ -118,7 +118,7 @@ pub record Worked : Type 0 where
   pub fault-clks : IO (clks ∷ []) (plain opcode22 1) ≡ 1 ∷ []
 
 pub worked : Worked
-unfolding plainFrom linesFrom inputTold inputImage runAbove savedBytes bytesOf bits
+unfolding plainFrom linesFrom inputTold inputImage runAbove savedBytes bytesOf bits lineE milliseconds decimal digitCount digitCountUpTo
 worked =
     record {
       sub-is = refl;
@@ -156,7 +156,7 @@ worked =
       run-returns = refl;
       run-without-room = refl;
       run-saves = refl;
-      run-time = refl;
+      run-closes = refl;
       entry-rises = refl;
       entry-keeps = refl;
       unchanged = refl;

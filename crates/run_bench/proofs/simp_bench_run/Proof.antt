@@ -10,8 +10,8 @@ use Rattle.run_bench.proofs.LoopLaws.{by-one-run}
 use Rattle.run_bench.proofs.simp_bench_run.Statement.{statement}
 use Rattle.run_bench.proofs.simp_bench_run.Tie as tie
 
-fresh-requires : tie.Need-fresh-requires
-fresh-requires c κs = search needs
+fresh-record-requires : tie.Need-fresh-record-requires
+fresh-record-requires c κs = search needs
 
 run-requires : tie.Need-run-requires
 run-requires c κs = search needs
@@ -32,13 +32,13 @@ returns : tie.Need-returns
 returns c =
     let a = c .before .before .before .before .before .before .before .before .before .before .before .before .before .before .before .before .before .before .before .before .args in
     let r = c .before .before .before .before .before .before .before .before .run in
-    by-one-run (a .irq2 .now) (a .budget) (a .log .now) (standingOf (a .image .now) freshRecord (a .memory .now) (a .disk .now) (a .frame .now)) _ (ap (λ (s : Record). standingOf (a .image .now) s (a .memory .now) (a .disk .now) (a .frame .now)) (c .before .before .before .before .before .before .before .before .before .before .before .before .before .fresh .ensures)) (doneOf (r .result) (a .image .now) (r .last .1 .1 .0) (r .last .1 .1 .1 .0) (r .last .1 .1 .1 .1 .0) (r .last .1 .1 .1 .1 .1 .1 .1 .0)) (r .ensures) (standsWith (a .image .now) (r .last .1 .1 .0) (r .last .1 .1 .1 .0) (r .last .1 .1 .1 .1 .0)) (r .result .state, refl)
+    by-one-run (a .irq2 .now) (a .budget) (a .log .now) (standingOf (a .image .now) freshRecord (a .memory .now) (a .disk .now) (a .frame .now)) _ (ap (λ (s : Record). standingOf (a .image .now) s (a .memory .now) (a .disk .now) (a .frame .now)) (c .before .before .before .before .before .before .before .before .before .before .before .before .before .fresh-record .ensures)) (doneOf (r .result) (a .image .now) (r .last .1 .1 .0) (r .last .1 .1 .1 .0) (r .last .1 .1 .1 .1 .0) (r .last .1 .1 .1 .1 .1 .1 .1 .0)) (r .ensures) (standsWith (a .image .now) (r .last .1 .1 .0) (r .last .1 .1 .1 .0) (r .last .1 .1 .1 .1 .0)) (r .result .state, refl)
 
 pub simp-bench-run-spec : {M : Type 1} → statement M
 simp-bench-run-spec =
     tie.close
     (tie.spec
-    fresh-requires
+    fresh-record-requires
     run-requires
     same-length
     same-length-2

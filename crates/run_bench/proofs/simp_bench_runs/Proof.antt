@@ -20,11 +20,11 @@ Inv-loop image memory₀ disk₀ frame₀ irq2 budget log₀ state₀ left₀ me
 abbrev μ-loop : tie.MeasureT-loop
 μ-loop image memory₀ disk₀ frame₀ irq2 budget log₀ state₀ left₀ memory disk frame log state left = left
 
-fresh-requires : tie.Need-fresh-requires Inv-loop μ-loop
-fresh-requires c κs = search needs
+fresh-record-requires : tie.Need-fresh-record-requires Inv-loop μ-loop
+fresh-record-requires c κs = search needs
 
 loop-holds : tie.Need-loop-holds Inv-loop μ-loop
-loop-holds c = (rw (c .fresh .ensures) (none-made _ _ _), refl, refl, refl, refl)
+loop-holds c = (rw (c .fresh-record .ensures) (none-made _ _ _), refl, refl, refl, refl)
 
 run-requires : tie.Need-run-requires Inv-loop μ-loop
 run-requires c κs = search needs
@@ -104,7 +104,7 @@ simp-bench-runs-spec =
     (tie.spec
     Inv-loop
     μ-loop
-    fresh-requires
+    fresh-record-requires
     loop-holds
     run-requires
     sub-result

@@ -5,8 +5,8 @@ use Rattle.runner.proofs.RunLaws.{report}
 use Rattle.runner.proofs.calls.run_sound.Statement.{statement}
 use Rattle.runner.proofs.calls.run_sound.Tie as tie
 
-wide-pairs-requires : tie.Need-wide-pairs-requires
-wide-pairs-requires c κs = search needs
+hex-words-requires : tie.Need-hex-words-requires
+hex-words-requires c κs = search needs
 
 all-registers-requires : tie.Need-all-registers-requires
 all-registers-requires c κs = search needs
@@ -18,7 +18,7 @@ make-cycles-requires : tie.Need-make-cycles-requires
 make-cycles-requires c κs =
     let p = c .before .before .before .before .before .before .before .before .before .before .before .before .before .before .before .before .before .before .before .before .before .before .pre in
     let r = c .before .before .before .before .before .before .before .before .before .before .before .before .before .all-registers .ensures in
-    ((rw (r .0) (sound-yes _ (p .0)), p .1 .0), (p .1 .1 .0, (record { sixteen = r .1 .0; zero = r .1 .1; is = c .before .before .before .before .before .before .before .before .lay-registers .ensures }, (c .before .before .before .before .before .before .before .before .before .before .before .before .before .before .before .wide-pairs .ensures, p .1 .1 .1))))
+    ((rw (r .0) (sound-yes _ (p .0)), p .1 .0), (p .1 .1 .0, (record { sixteen = r .1 .0; zero = r .1 .1; is = c .before .before .before .before .before .before .before .before .lay-registers .ensures }, (c .before .before .before .before .before .before .before .before .before .before .before .before .before .before .before .hex-words .ensures, p .1 .1 .1))))
 
 kept-registers-requires : tie.Need-kept-registers-requires
 kept-registers-requires c κs = search needs
@@ -46,7 +46,7 @@ pub run-sound-spec : {M : Type 1} → statement M
 run-sound-spec =
     tie.close
     (tie.spec
-    wide-pairs-requires
+    hex-words-requires
     all-registers-requires
     lay-registers-requires
     make-cycles-requires

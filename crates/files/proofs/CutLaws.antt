@@ -1,0 +1,136 @@
+-- A memory file is read as well from its front: for a memory of n words with k digits each, n × (k + 1) bytes, the digits and an LF for each word,
+-- and one byte more decide what a reader tells and leaves. Who reads a text of any length needs to keep no more of it. Assumes nothing.
+use Prim.Native.Nat.{ℕ, zero, suc, _+_, _-_, _*_, _≤_, _<_}
+use mathlib.Core.Path.{_≡_, refl, sym, _∙_, ap}
+use mathlib.Core.Bool.{Bool, true, false}
+use mathlib.Core.List.{List}
+use native.Mathlib.Nat.{suc-mul}
+use native.Mathlib.Omega.{arith}
+use lib.ListN.{length, take, drop, length-drop}
+use lib.Seq.{take-all, take-add, take-take, drop-at, getD-take, length-take-le}
+use lib.Dec.{leb}
+use borrow.Author.Tests.{lt-ltb, leb-true, leb-false, ne-eqb}
+use Rattle.text.specs.Questions.{Told, accepted, firstBad}
+use Rattle.text.specs.Numerals.{allDigits}
+use Rattle.text.specs.Lines.{lines, firstLine, endsLine}
+use Rattle.text.proofs.QuestionLaws.{first-yes}
+use Rattle.files.specs.declared.FileRead.{FileRead}
+use Rattle.files.specs.Sizes.{imageWords, imageDigits, isImageLength}
+use Rattle.files.specs.MemoryFile.{isWord, wordQuestions, linesTold, readTold}
+use Rattle.files.specs.Promises.{MemoryRead}
+use Rattle.files.proofs.CheckLaws.{word-long, word-front, check-full, check-bad, check-good, good-room, good-next}
+
+-- ---- one line
+
+-- Whether the first line is a word of k digits is seen from k + 1 bytes.
+module _ (k m : ℕ) (s : List ℕ) (h : k < m) (long : m < length s) where
+  ends-cut : endsLine (take m s) k ≡ endsLine s k
+  ends-cut = rw (length-take-le m s (omega arith), lt-ltb k m h, lt-ltb k (length s) (omega arith), getD-take m s k 0 h)
+
+  word-cut : isWord k (firstLine (take m s)) ≡ isWord k (firstLine s)
+  word-cut = go (endsLine s k) refl
+    where
+      go : (t : Bool) → endsLine s k ≡ t → isWord k (firstLine (take m s)) ≡ isWord k (firstLine s)
+      go true e =
+          sym (word-front k (take m s) (rw (length-take-le m s (omega arith)) (omega arith)) (ends-cut ∙ e))
+          ∙ ap (allDigits 16) (take-take k m s (omega arith))
+          ∙ word-front k s (omega arith) e
+      go false e = sym (word-long k (take m s) (ends-cut ∙ e)) ∙ word-long k s e
+
+-- The bytes from a place on.
+drop-cut : (at m : ℕ) (s : List ℕ) → at ≤ m → m ≤ length s → drop at (take m s) ≡ take (m - at) (drop at s)
+drop-cut at m s h long =
+    let parts : m ≡ at + (m - at) = omega arith in
+    ap (λ (n : ℕ). drop at (take n s)) parts ∙ ap (drop at) (take-add at (m - at) s) ∙ drop-at (take at s) (take (m - at) (drop at s)) at (length-take-le at s (omega arith))
+
+-- ---- one line after the other
+
+module _ (k room : ℕ) (text : List ℕ) where
+  -- What is told of the lines of s, before which i lines stand.
+  abbrev toldFrom : ℕ → List ℕ → Told
+  toldFrom i s = firstBad (wordQuestions k room) i (lines s) (accepted 0)
+
+  -- From the place `at` on, before which i lines stand, there being words for j more: a text that goes on after their lines is refused.
+  never-good : (j i at : ℕ) → i + j ≡ room → at + j * (k + 1) < length text → toldFrom i (drop at text) .number ≡ 0 → ⊥
+  never-good zero i at e h good = let left = good-room k room text at i (omega arith) good in omega arith
+  never-good (suc j) i at e h good =
+      let one = suc-mul j (k + 1) in
+      never-good j (i + 1) (at + (k + 1)) (omega arith) (omega arith) (good-next k room text at i (omega arith) good)
+
+  -- A text that is longer than the cut.
+  module _ (m : ℕ) (long : m < length text) where
+    size : length (take m text) ≡ m
+    size = length-take-le m text (omega arith)
+
+    -- The line at a place is a word, or none, in both.
+    same-word : (at : ℕ) → at + k < m → isWord k (firstLine (drop at (take m text))) ≡ isWord k (firstLine (drop at text))
+    same-word at h =
+        ap (λ (s : List ℕ). isWord k (firstLine s)) (drop-cut at m text (omega arith) (omega arith))
+        ∙ word-cut k (m - at) (drop at text) (omega arith) (rw length-drop (omega arith))
+
+    -- One line: where it is good, what is told of the lines after it is told.
+    same-line : (i at : ℕ) → i < room → at + k < m
+        → toldFrom (i + 1) (drop (at + (k + 1)) (take m text)) ≡ toldFrom (i + 1) (drop (at + (k + 1)) text)
+        → toldFrom i (drop at (take m text)) ≡ toldFrom i (drop at text)
+    same-line i at left h rest = go (isWord k (firstLine (drop at text))) refl
+      where
+        inside : at < length (take m text)
+        inside = rw size (omega arith)
+
+        go : (t : Bool) → isWord k (firstLine (drop at text)) ≡ t → toldFrom i (drop at (take m text)) ≡ toldFrom i (drop at text)
+        go true good =
+            sym (check-good k room (take m text) at i inside left (same-word at h ∙ good)) ∙ rest ∙ check-good k room text at i (omega arith) left good
+        go false bad =
+            sym (check-bad k room (take m text) at i inside left (same-word at h ∙ bad)) ∙ check-bad k room text at i (omega arith) left bad
+
+    -- All of them: past the last word any byte is refused.
+    same-told : (j i at : ℕ) → i + j ≡ room → at + j * (k + 1) < m → toldFrom i (drop at (take m text)) ≡ toldFrom i (drop at text)
+    same-told zero i at e h =
+        sym (check-full k room (take m text) at i (rw size (omega arith)) (omega arith)) ∙ check-full k room text at i (omega arith) (omega arith)
+    same-told (suc j) i at e h =
+        let one = suc-mul j (k + 1) in
+        same-line i at (omega arith) (omega arith) (same-told j (i + 1) (at + (k + 1)) (omega arith) (omega arith))
+
+-- ---- any text
+
+-- A text that is longer than the file of the memory is refused.
+pub long-refused : (k room : ℕ) (text : List ℕ) → room * (k + 1) < length text → linesTold k room text .number ≡ 0 → ⊥
+unfolding linesTold
+long-refused k room text h good = never-good k room text room 0 0 (omega arith) (omega arith) good
+
+-- Of the lines of the cut the same is told; ..
+pub cut-told : (k room m : ℕ) (text : List ℕ) → room * (k + 1) < m → linesTold k room (take m text) ≡ linesTold k room text
+unfolding linesTold
+cut-told k room m text h = go (leb (length text) m) refl
+  where
+    go : (t : Bool) → leb (length text) m ≡ t → linesTold k room (take m text) ≡ linesTold k room text
+    go true e = ap (linesTold k room) (take-all m text (leb-true (length text) m e))
+    go false e = same-told k room text m (leb-false (length text) m e) room 0 0 (omega arith) (omega arith)
+
+module _ (k : ℕ) (isRight : ℕ → Bool) (m : ℕ) (text : List ℕ) where
+  -- .. by a reader too, whose question 1 is of the memory alone.
+  pub cut-read-told : (room : ℕ) → room * (k + 1) < m → readTold k isRight room (take m text) ≡ readTold k isRight room text
+  unfolding readTold
+  cut-read-told room h = rw (cut-told k room m text h)
+
+  -- A text that is longer than the cut is refused, ..
+  cut-refused : (room : ℕ) → room * (k + 1) < m → m < length text → readTold k isRight room text .number ≡ 0 → ⊥
+  unfolding readTold
+  cut-refused room h long good = long-refused k room text (omega arith) (first-yes 1 0 (isRight room) _ (omega arith) good .1)
+
+  -- .. so who reads the cut has read the text.
+  pub cut-read : (memory : List ℕ) (r : FileRead) (after : List ℕ) → length memory * (k + 1) < m
+      → MemoryRead k isRight (take m text) memory r after → MemoryRead k isRight text memory r after
+  cut-read memory r after h p = go (leb (length text) m) refl
+    where
+      go : (t : Bool) → leb (length text) m ≡ t → MemoryRead k isRight text memory r after
+      go true e = rw (take-all m text (leb-true (length text) m e)) at p
+      go false e =
+          let same = cut-read-told (length memory) h in
+          let refusal = ne-eqb (readTold k isRight (length memory) text .number) 0 (cut-refused (length memory) h (leb-false (length text) m e)) in
+          record { answer = p .answer ∙ same; words = rw (same, refusal) at (p .words) ∙ rw refusal }
+
+-- An instruction file: of 53,249 bytes or more.
+pub image-cut : (m : ℕ) (text image : List ℕ) (r : FileRead) (after : List ℕ) → length image ≡ imageWords → 53248 < m
+    → MemoryRead imageDigits isImageLength (take m text) image r after → MemoryRead imageDigits isImageLength text image r after
+image-cut m text image r after size h p = cut-read imageDigits isImageLength m text image r after (rw size (omega arith)) p

@@ -1,0 +1,3 @@
+-- Laws that belong to no one function.
+pub mod RunLaws
+pub mod PieceLaws

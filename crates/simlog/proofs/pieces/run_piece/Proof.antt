@@ -1,0 +1,23 @@
+-- `simlog::pieces::run_piece` meets its contract.
+use native.Mathlib.Omega.{arith}
+use borrow.Author.Needs.{needs}
+use Rattle.executor.specs.Lent.{Sized}
+use Rattle.simlog.proofs.PieceLaws.{piece}
+use Rattle.simlog.proofs.pieces.run_piece.Statement.{statement}
+use Rattle.simlog.proofs.pieces.run_piece.Tie as tie
+
+slice-aggregate-run : tie.Need-slice-aggregate-run
+slice-aggregate-run c = search needs
+
+run-requires : tie.Need-run-requires
+run-requires c κs = search needs
+
+returns : tie.Need-returns
+returns c =
+    let a = c .before .before .before .before .before .before .before .args in
+    let sizes : Sized (a .memory .now) (a .disk .now) (a .frame .now) = record { memory-size = c .before .before .before .before .before .run-arg2 .given .0 .1; disk-size = c .before .before .before .before .run-arg3 .given .0 .1; frame-size = c .before .before .before .run-arg4 .given .0 .1 } in
+    let log-size = c .before .run-arg5 .given .0 .1 in
+    piece (a .image .now) (a .memory .now) (a .disk .now) (a .frame .now) (a .log .now) (a .state) (a .budget) (c .before .before .before .before .before .before .before .pre) (c .before .before .before .before .before .before .run-arg .given .0) sizes (omega arith) (c .run .result) _ _ _ _ (c .run .ensures)
+
+pub run-piece-spec : {M : Type 1} → statement M
+run-piece-spec = tie.close (tie.spec slice-aggregate-run run-requires returns)

@@ -1,0 +1,2 @@
+-- What the program makes of an image.
+pub mod Pieces

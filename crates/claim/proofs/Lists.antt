@@ -2,7 +2,7 @@
 use Prim.Native.Nat.{ℕ, zero, suc, _+_, _-_, _<_, _≤_}
 use mathlib.Core.Path.{_≡_, refl, sym, ap, _∙_, subst₂}
 use mathlib.Core.Bool.{Bool, true, false}
-use mathlib.Core.List.{List, [], _∷_, _++_}
+use mathlib.Core.List.{List, [], _∷_}
 use native.Mathlib.Nat.{add-zero, add-suc, zero-add, add-assoc}
 use native.Mathlib.Omega.{arith}
 use lib.ListN.{length, take, drop}
@@ -13,7 +13,7 @@ use Rattle.text.specs.Questions.{Question, Told, accepted, firstNo}
 use Rattle.text.proofs.QuestionLaws.{first-yes}
 use Rattle.claim.specs.Plain.{onward, after, logAfter, Makes}
 use Rattle.claim.specs.Calls.{Bytes, Lab, State, Stands, Call, run, runOther, trip, tripOther, Done, runTold}
-use Rattle.claim.specs.Calls.{Ran, runFrom, refuse, ran, runCall, moved, tripCall, call, standing, session, total, joined, final}
+use Rattle.claim.specs.Calls.{Ran, runFrom, refuse, ran, runCall, moved, tripTold, tripCall, call, standing, session, total, joined, final}
 use Rattle.claim.specs.Demand.{AllYes, code, plain, plainLog, Agrees, Unchanged, Meets, Each, end, next, Demand3, Trace, done, then}
 use Rattle.claim.specs.Laws.{Numbered, Laws}
 use Rattle.claim.proofs.Runs.{after-add, log-add, makes-add, exact-makes, Runs, runs}
@@ -151,7 +151,7 @@ module _ (L : Lab) (laws : Laws L) (irqs : L .Irqs) where
               let back = laws .back w good k space (eqb-true _ _ e) into same in
               rw (e, eq-eqb _ _ (back .0))
               (still m w (trip k space into same) (moved L (L .place k (L .readInto k (L .textOf k (L .part k w)) into) w))
-              (record { accepted = λ h. refl; refused = λ h. absurd (h refl); counts = (refl, refl) })
+              (record { asked = rw (e, eq-eqb _ _ (back .0)); accepted = λ h. refl; refused = λ h. absurd (h refl); counts = (refl, refl, refl) })
               (back .1)
               (record { state = back .2 ∙ agrees .state; image = back .3 irqs ∙ agrees .image })
               refl refl)
@@ -159,9 +159,10 @@ module _ (L : Lab) (laws : Laws L) (irqs : L .Irqs) where
               rw e
               (still m w (trip k space into same) (refuse L w [] (L .writeTold k (L .part k w) space))
               (record {
+                asked = rw e;
                 accepted = laws .room w good k space;
                 refused = λ h. unchanged w [] _;
-                counts = (refl, refl);
+                counts = (refl, refl, refl);
               })
               good agrees refl refl)
 
@@ -173,17 +174,17 @@ module _ (L : Lab) (laws : Laws L) (irqs : L .Irqs) where
       other-trip-step k out space into refusal =
           go (eqb (L .writeTold k out space .number) 0) refl (eqb (L .readTold k (L .textOf k out) into .number) 0) refl
         where
-          refuses : (t : Told) → (t .number ≡ 0 → ⊥) → Stepped m w (tripOther k out space into refusal) (refuse L w [] t)
-          refuses t h =
+          refuses : (t : Told) → t ≡ tripTold L k out space into → (t .number ≡ 0 → ⊥) → Stepped m w (tripOther k out space into refusal) (refuse L w [] t)
+          refuses t told h =
               still m w (tripOther k out space into refusal) (refuse L w [] t)
-              (record { refused = (h, unchanged w [] t) })
+              (record { asked = told; refused = (h, unchanged w [] t) })
               good agrees refl refl
 
           go : (t : Bool) → eqb (L .writeTold k out space .number) 0 ≡ t → (u : Bool) → eqb (L .readTold k (L .textOf k out) into .number) 0 ≡ u
               → Stepped m w (tripOther k out space into refusal) (tripCall L w k out space into)
           go true e true f = absurd (refusal (eqb-true _ _ e) (eqb-true _ _ f))
-          go true e false f = rw (e, f) (refuses _ (eqb-false _ _ f))
-          go false e u f = rw e (refuses _ (eqb-false _ _ e))
+          go true e false f = rw (e, f) (refuses _ (rw (e, f)) (eqb-false _ _ f))
+          go false e u f = rw e (refuses _ (rw e) (eqb-false _ _ e))
 
       -- Any call.
       step : (c : Call L) → Stepped m w c (call L irqs w c)

@@ -1,4 +1,5 @@
--- The calls that a list may hold, and what each does: the definitions that the contracts of run, save, write and read cite.
+-- The calls that a list may hold, and what each does. run's contract cites `runCall`; the definitions that the contracts of save, write and read
+-- cite are named by the lab.
 use Prim.Native.Nat.{ℕ, zero, suc, _+_, _-_}
 use mathlib.Core.Path.{_≡_}
 use mathlib.Core.Bool.{Bool, true, cond}
@@ -25,7 +26,7 @@ pub record Lab : Type 1 where
   pub codeOf : Image → Irqs → machine .Code
   -- "It starts from the fresh record, any data memory, disk and frame, one image .."
   pub Fresh : World Image (machine .State) → Type 0
-  -- The questions that document 01 asks of a run: of its interrupt list, and of what else it is lent, in order.
+  -- The questions that document 01 asks of a run, in its order.
   pub asks : Irqs → World Image (machine .State) → List Question
   -- The things that a return trip carries: "the record .. the image, a memory or a part of the disk". `Lent` is what the writer of such a thing is
   -- lent and `part` where it stands; `Slice` is what its reader fills, and `place` what stands when that takes its place.
@@ -89,16 +90,18 @@ module _ (L : Lab) where
   pub data Call : Type 0 where
     -- "Each call gets the record, image and memories that the last one returned or left .. Each run is lent that irq2 list."
     run : (budget : ℕ) (log : Bytes) → Call
-    -- "a call that is to be refused may instead be lent wrong lengths .. or an irq2 list that doesn't rise": anything that a question refuses.
+    -- "a call that is to be refused may instead be lent wrong lengths .. or an irq2 list that doesn't rise": anything that a question refuses;
+    -- `lent` may be what stands.
     runOther : (budget : ℕ) (log : Bytes) (irqs : L .Irqs) (lent : Stands) → (runTold irqs lent .number ≡ 0 → ⊥) → Call
     -- "A return trip saves the record and reads those bytes, or writes the image, a memory or a part of the disk as text and reads that text into
     -- a slice of the same length, whatever it held, which then takes its place."
     trip : (k : L .Kind) (space : Bytes) (into : L .Slice k) → L .SameLength k into → Call
-    -- A trip one of whose halves is to be refused.
+    -- A trip one of whose halves is to be refused; `out` is what its writer is lent, what stands or not. ("too little text space" needs only `trip`,
+    -- whose space is any.)
     tripOther : (k : L .Kind) (out : L .Lent k) (space : Bytes) (into : L .Slice k)
         → (L .writeTold k out space .number ≡ 0 → L .readTold k (L .textOf k out) into .number ≡ 0 → ⊥) → Call
 
-  -- What a call tells, what it counts, and the log and the image, record and memories that it was lent, as they are after it.
+  -- What a call tells and counts; the log, the image, the record and the memories that a run was lent, as they are after it; after a trip, what stands.
   pub record Done : Type 0 where
     pub told : Told
     pub cycles : ℕ
@@ -130,10 +133,18 @@ module _ (L : Lab) where
       (ran lent log (runFrom (L .machine) (L .codeOf (lent .image) irqs) budget (length log) (lent .state)))
       (refuse lent log (runTold irqs lent))
 
-  -- A RETURN TRIP of `out` while w stands: "Where .. either half of a trip is refused, the list goes on with what stood before it."
+  -- An accepted trip: it counts nothing, and w stands after it.
   abbrev pub moved : Stands → Done
   moved w = record { told = accepted 0; cycles = 0; bytes = 0; reason = 0; log = []; lent = w }
 
+  -- What a trip tells: the first refusal of its halves, if one refuses.
+  abbrev pub tripTold : (k : L .Kind) (out : L .Lent k) (space : Bytes) (into : L .Slice k) → Told
+  tripTold k out space into =
+      let wrote = L .writeTold k out space in
+      let got = L .readTold k (L .textOf k out) into in
+      unlessRefused wrote (unlessRefused got (accepted 0) got) wrote
+
+  -- A RETURN TRIP of `out` while w stands: "Where .. either half of a trip is refused, the list goes on with what stood before it."
   unfoldable pub tripCall : (w : Stands) (k : L .Kind) (out : L .Lent k) (space : Bytes) (into : L .Slice k) → Done
   tripCall w k out space into =
       let wrote = L .writeTold k out space in

@@ -7,7 +7,7 @@ use mathlib.Core.List.{List, [], _∷_}
 use lib.ListN.{length, take, drop}
 use Rattle.text.specs.Questions.{Question}
 use Rattle.claim.specs.Plain.{after, logAfter, Makes, Exact}
-use Rattle.claim.specs.Calls.{Bytes, Lab, Stands, State, Call, run, runOther, trip, tripOther, Done, runTold, call, standing, total, joined, final}
+use Rattle.claim.specs.Calls.{Bytes, Lab, Stands, State, Call, run, runOther, trip, tripOther, Done, runTold, tripTold, call, standing, total, joined, final}
 
 -- Every question gets a yes.
 abbrev pub AllYes : List Question → Type 0
@@ -26,7 +26,8 @@ module _ (L : Lab) (irqs : L .Irqs) (start : Stands L) where
   abbrev pub plainLog : ℕ → Bytes
   plainLog n = logAfter (L .machine) code n (start .state)
 
-  -- The record and every memory are the plain machine's after m cycles, and "the image stays the same".
+  -- The record and every memory are the plain machine's after m cycles. "The image stays the same": "two images are the same .. when their low 48
+  -- bits are", which is what codeOf takes of them.
   pub record Agrees (m : ℕ) (w : Stands L) : Type 0 where
     pub state : w .state ≡ plain m
     pub image : L .codeOf (w .image) irqs ≡ code
@@ -49,7 +50,7 @@ module _ (L : Lab) (irqs : L .Irqs) (start : Stands L) where
     pub asked : d .told ≡ runTold L irqs w
     pub exactly : Accepted d ↔ AllYes (L .asks irqs w)
     pub refused : (Accepted d → ⊥) → Unchanged w log d
-    -- No run is refused unless the first of the list would be.
+    -- Each run is told what a run from the start would be: none "works in its first call and afterwards only copies its record or refuses".
     pub asFirst : d .told ≡ runTold L irqs start
     -- "An accepted run makes cycles exactly until its budget is spent or that machine, after all cycles so far, has stopped, is at the cycle limit
     -- or has a next cycle whose lines don't fit, whichever comes first. It reports their number and document 01's reason."
@@ -65,21 +66,23 @@ module _ (L : Lab) (irqs : L .Irqs) (start : Stands L) where
     pub refused : (Accepted d → ⊥) × Unchanged lent log d
 
   -- "With right lent lengths and room for the text no such save, write or read is refused; where one is, nothing changes."
-  pub record OwnTrip (w : Stands L) (k : L .Kind) (space : Bytes) (d : Done L) : Type 0 where
+  pub record OwnTrip (w : Stands L) (k : L .Kind) (space : Bytes) (into : L .Slice k) (d : Done L) : Type 0 where
+    pub asked : d .told ≡ tripTold L k (L .part k w) space into
     pub accepted : L .Room k space → Accepted d
     pub refused : (Accepted d → ⊥) → Unchanged w [] d
-    pub counts : (d .cycles ≡ 0) × (d .bytes ≡ 0)
+    pub counts : (d .cycles ≡ 0) × (d .bytes ≡ 0) × (d .reason ≡ 0)
 
   -- A trip that is lent something else is refused.
-  pub record OtherTrip (w : Stands L) (d : Done L) : Type 0 where
+  pub record OtherTrip (w : Stands L) (k : L .Kind) (out : L .Lent k) (space : Bytes) (into : L .Slice k) (d : Done L) : Type 0 where
+    pub asked : d .told ≡ tripTold L k out space into
     pub refused : (Accepted d → ⊥) × Unchanged w [] d
 
   -- What the demand says of one call, when w stands and the calls before it have counted m cycles.
   abbrev pub Meets : ℕ → Stands L → Call L → Done L → Type 0
   Meets m w (run budget log) d = OwnRun m w budget log d
   Meets m w (runOther budget log other lent _) d = OtherRun log other lent d
-  Meets m w (trip k space into _) d = OwnTrip w k space d
-  Meets m w (tripOther k out space into _) d = OtherTrip w d
+  Meets m w (trip k space into _) d = OwnTrip w k space into d
+  Meets m w (tripOther k out space into _) d = OtherTrip w k out space into d
 
   -- Of each call of a list in turn; after each, what stands is the plain machine after all cycles so far.
   pub data Each : ℕ → Stands L → List (Call L) → List (Done L) → Type 0 where
@@ -98,7 +101,7 @@ module _ (L : Lab) (irqs : L .Irqs) (start : Stands L) where
     -- Each call, in turn.
     pub each : Each 0 start calls ds
     -- "In every list a disk command accepted in cycle c frees the disk at the end of cycle c+1024 and not before, unless the list's cycles end
-    -- sooner." The machine at the end of cycle c is `plain (c + 1)`.
+    -- sooner." Cycle c is the one that `plain c` makes; its age is c where the list starts from a fresh record. At its end the machine is `plain (c + 1)`.
     pub diskBusy : (c i : ℕ) → L .accepts code (plain c) ≡ true → c < i → i ≤ c + 1024 → i ≤ total L ds → L .isBusy (plain i) ≡ true
     pub diskFree : (c : ℕ) → L .accepts code (plain c) ≡ true → c + 1025 ≤ total L ds → L .isBusy (plain (c + 1025)) ≡ false
 

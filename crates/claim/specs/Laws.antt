@@ -17,12 +17,13 @@ abbrev pub cycled : (L : Lab) → L .Irqs → Stands L → Stands L
 cycled L irqs w = record { image = w .image; state = L .machine .cycle (L .codeOf (w .image) irqs) (w .state) }
 
 pub record Laws (L : Lab) : Type 1 where
-  -- A sound record, with an image and memories of document 01's lengths. What is fresh is so, and a cycle keeps it.
+  -- A sound record, with an image and memories of document 01's lengths, whose words fit. What is fresh is so; a cycle and a return trip keep it.
   pub Good : Stands L → Type 0
   pub fresh : (w : Stands L) → L .Fresh w → Good w
   pub kept : (irqs : L .Irqs) (w : Stands L) → Good w → isOver (L .machine) (w .state) ≡ false → Good (cycled L irqs w)
-  -- The answers to run's questions then depend on the interrupt list alone.
+  -- No question of a run has the number 0.
   pub numbered : (irqs : L .Irqs) (w : Stands L) → Numbered (L .asks irqs w)
+  -- The answers to them then depend on the interrupt list alone.
   pub alike : (irqs : L .Irqs) (v w : Stands L) → Good v → Good w → runTold L irqs v ≡ runTold L irqs w
   -- A thing is written where there is room for it, and reads back as the same thing.
   pub room : (w : Stands L) → Good w → (k : L .Kind) (space : Bytes) → L .Room k space → L .writeTold k (L .part k w) space .number ≡ 0

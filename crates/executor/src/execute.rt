@@ -28,7 +28,7 @@ pub fn execute(
     memory: &mut [u32],
     disk: &mut [u32],
     frame: &mut [u8],
-    table: &[u32; 512],
+    table: &[u64; 1024],
 ) -> Core
     requires { ⌜ (o .target < 16) × (Kept (now regs) (now text) × (HexWords (now table) × Ready (now io) (now memory) (now disk) (now frame))) ⌝ }
     ensures { λ r. ⌜ (packed r (now (regs .exit)) (now (io .exit)) (now (memory .exit)) (now (disk .exit)) (now (frame .exit)) ≡ executed (operationOf op) o (packed c (now (regs .entry)) (now (io .entry)) (now (memory .entry)) (now (disk .entry)) (now (frame .entry)))) × Kept (now (regs .exit)) (now (text .exit)) ⌝ }

@@ -30,7 +30,7 @@ pub fn calculation(
     o: Operands,
     regs: &mut [u32; 16],
     text: &mut [u8; 118],
-    table: &[u32; 512],
+    table: &[u64; 1024],
 ) -> Core
     requires { ⌜ (op < 9) × ((o .target < 16) × (Kept (now regs) (now text) × HexWords (now table))) ⌝ }
     ensures { λ r. ⌜ ((io memory disk frame : List ℕ) → packed r (now (regs .exit)) io memory disk frame ≡ executed (operationOf op) o (packed c (now (regs .entry)) io memory disk frame)) × Kept (now (regs .exit)) (now (text .exit)) ⌝ }
@@ -56,7 +56,7 @@ pub fn link(
     o: Operands,
     regs: &mut [u32; 16],
     text: &mut [u8; 118],
-    table: &[u32; 512],
+    table: &[u64; 1024],
 ) -> Core
     requires { ⌜ (o .target < 16) × (Kept (now regs) (now text) × HexWords (now table)) ⌝ }
     ensures { λ r. ⌜ ((io memory disk frame : List ℕ) → packed r (now (regs .exit)) io memory disk frame ≡ executed jal o (packed c (now (regs .entry)) io memory disk frame)) × Kept (now (regs .exit)) (now (text .exit)) ⌝ }
@@ -72,7 +72,7 @@ pub fn load(
     regs: &mut [u32; 16],
     text: &mut [u8; 118],
     memory: &[u32],
-    table: &[u32; 512],
+    table: &[u64; 1024],
 ) -> Core
     requires { ⌜ (o .target < 16) × (Kept (now regs) (now text) × (HexWords (now table) × (length (now memory) ≡ 4096))) ⌝ }
     ensures { λ r. ⌜ ((io disk frame : List ℕ) → packed r (now (regs .exit)) io (now (memory .entry)) disk frame ≡ executed lw o (packed c (now (regs .entry)) io (now (memory .entry)) disk frame)) × Kept (now (regs .exit)) (now (text .exit)) ⌝ }
@@ -118,7 +118,7 @@ pub fn input(
     regs: &mut [u32; 16],
     text: &mut [u8; 118],
     io: &[u32; 23],
-    table: &[u32; 512],
+    table: &[u64; 1024],
 ) -> Core
     requires { ⌜ (o .target < 16) × (Kept (now regs) (now text) × HexWords (now table)) ⌝ }
     ensures { λ r. ⌜ ((memory disk frame : List ℕ) → packed r (now (regs .exit)) (now (io .entry)) memory disk frame ≡ executed inputOperation o (packed c (now (regs .entry)) (now (io .entry)) memory disk frame)) × Kept (now (regs .exit)) (now (text .exit)) ⌝ }

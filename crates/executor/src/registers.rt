@@ -12,7 +12,7 @@ pub fn put_register(
     text: &mut [u8; 118],
     n: usize,
     x: u32,
-    table: &[u32; 512],
+    table: &[u64; 1024],
 )
     requires { ⌜ (n < 16) × (Kept (now regs) (now text) × HexWords (now table)) ⌝ }
     ensures { λ _. ⌜ (now (regs .exit) ≡ stored n x (now (regs .entry))) × Kept (now (regs .exit)) (now (text .exit)) ⌝ }

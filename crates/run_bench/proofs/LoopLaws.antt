@@ -53,6 +53,7 @@ module _ {irq2 : List ℕ} {start : Standing} {budget : ℕ} {now : Standing} {l
       record {
         calls = m .calls;
         dones = m .dones;
+        trace = m .trace;
         demand = λ fresh. demand3-met irq2 start fresh (m .calls) (m .dones) (m .trace);
         made = (let spent = m .spent in omega arith);
         stands = rw (m .stands) h;

@@ -4,7 +4,7 @@ use mathlib.Core.Path.{_≡_}
 use mathlib.Core.List.{List}
 use Rattle.machine.specs.declared.Record.{Record}
 use Rattle.claim.specs.Calls.{Call, Done, runCall, total, final}
-use Rattle.claim.specs.Demand.{Demand3}
+use Rattle.claim.specs.Demand.{Demand3, Trace}
 use Rattle.runner.specs.Lab.{lab, Standing, Fresh, standingOf}
 
 -- An image and memories stand, with some record.
@@ -17,11 +17,12 @@ pub record ByOneRun (irq2 : List ℕ) (budget : ℕ) (log : List ℕ) (start : S
   pub written : log' ≡ runCall lab budget log irq2 start .log
   pub stands : Stands (runCall lab budget log irq2 start .lent)
 
--- There is a list of calls from `start` of which demand 3 holds where `start` is fresh, whose runs made so many cycles in total, and after which
+-- There is a list of calls from `start` that met their contracts, of which demand 3 holds where `start` is fresh, whose runs made so many cycles in total, and after which
 -- stands what `Stands` says.
 pub record ByCalls (irq2 : List ℕ) (start : Standing) (cycles : ℕ) (Stands : Standing → Type 0) : Type 0 where
   pub calls : List (Call lab)
   pub dones : List (Done lab)
+  pub trace : Trace lab irq2 start calls dones
   pub demand : Fresh start → Demand3 lab irq2 start calls dones
   pub made : total lab dones ≡ cycles
   pub stands : Stands (final lab start calls dones)

@@ -30,7 +30,7 @@ use Rattle.claim.proofs.Loop.{ask, Going, start, count, rest, same-length, next
 use Rattle.runner.specs.declared.Ended.{Ended}
 use Rattle.runner.specs.Lab.{simp, codeOf}
 use Rattle.runner.specs.Irq2Place.{PlaceOf, isAt}
-use Rattle.runner.specs.Answers.{ranTold, ranReason, EndsRun}
+use Rattle.runner.specs.Answers.{ranTold, ranReason, reasonOf, EndsRun}
 use Rattle.runner.proofs.Irq2Laws.{rises, in-by-place, next-place}
 
 -- ---- the room for a cycle's lines
@@ -77,10 +77,6 @@ reasoned false true c d h = refl
 reasoned false false true d h = refl
 reasoned false false false d h = rw (h refl refl refl)
 
--- The reason why a machine of this status and age makes no further cycle.
-abbrev reason : Core → ℕ → ℕ → ℕ
-reason c budget n = told (not (eqb (c .status) 0)) (eqb (c .age) cycleLimit) (leb budget n)
-
 -- Whether it makes one with budget left.
 abbrev goes : Core → ℕ → ℕ → Bool
 goes c lines room = eqb (c .status) 0 && not (eqb (c .age) cycleLimit) && leb lines room
@@ -98,7 +94,7 @@ module _ (image irq2 : List ℕ) (budget n at room : ℕ) (m : Machine) (within 
       let young = not-true (eqb (m .core .age) cycleLimit) (and-right (eqb (m .core .status) 0) (not (eqb (m .core .age) cycleLimit)) two) in
       rw (running, young, lt-leb budget n h, le-ltb room (at + bytes) (omega arith))
 
-  asks-some : goes (m .core) bytes (room - at) ≡ false → ask simp (codeOf image irq2) budget room n at m ≡ some (reason (m .core) budget n)
+  asks-some : goes (m .core) bytes (room - at) ≡ false → ask simp (codeOf image irq2) budget room n at m ≡ some (reasonOf (m .core) n budget)
   unfolding ask
   asks-some e = reasoned (not (eqb (m .core .status) 0)) (eqb (m .core .age) cycleLimit) (leb budget n) (ltb room (at + bytes)) (λ a b c. lt-ltb room (at + bytes) (full (eqb (m .core .status) 0) (eqb (m .core .age) cycleLimit) a b e))
     where
@@ -106,7 +102,7 @@ module _ (image irq2 : List ℕ) (budget n at room : ℕ) (m : Machine) (within 
       full true b p q h = let over = leb-false bytes (room - at) (rw q at h) in omega arith
       full false b p q h = absurd (false≢true (sym p))
 
-  asks-spent : budget ≤ n → ask simp (codeOf image irq2) budget room n at m ≡ some (reason (m .core) budget n)
+  asks-spent : budget ≤ n → ask simp (codeOf image irq2) budget room n at m ≡ some (reasonOf (m .core) n budget)
   unfolding ask
   asks-spent h = reasoned (not (eqb (m .core .status) 0)) (eqb (m .core .age) cycleLimit) (leb budget n) (ltb room (at + bytes)) (λ a b c. absurd (false≢true (sym c ∙ le-leb budget n h)))
 
@@ -129,19 +125,19 @@ module _ (image irq2 : List ℕ) (s : Machine) (budget : ℕ) (log₀ : List ℕ
     hits = in-by-place (now .core .age) p irq2 (rises irq2 up) (u .place)
 
     -- Where a run ends.
-    ends : ask simp (codeOf image irq2) budget (length log₀) n at now ≡ some (reason (now .core) budget n)
-        → (e : Ended) (m : Machine) → m ≡ now → e .cycles ≡ n → e .at ≡ at → ranTold (e .answer) ≡ accepted 0 → ranReason (e .answer) ≡ reason (now .core) budget n
+    ends : ask simp (codeOf image irq2) budget (length log₀) n at now ≡ some (reasonOf (now .core) n budget)
+        → (e : Ended) (m : Machine) → m ≡ now → e .cycles ≡ n → e .at ≡ at → ranTold (e .answer) ≡ accepted 0 → ranReason (e .answer) ≡ reasonOf (now .core) n budget
         → EndsRun (codeOf image irq2) budget log₀ s e m log
     ends q e m same cycles place accept why =
         record {
           told = accept;
-          is = rw (same, cycles, place, why) (stop simp (codeOf image irq2) s budget log₀ n at now log (u .going) (reason (now .core) budget n) q);
+          is = rw (same, cycles, place, why) (stop simp (codeOf image irq2) s budget log₀ n at now log (u .going) (reasonOf (now .core) n budget) q);
           count = rw place (count simp (codeOf image irq2) s budget log₀ n at now log (u .going));
           rest = rw place (rest simp (codeOf image irq2) s budget log₀ n at now log (u .going));
         }
 
     pub ends-spent : budget ≤ n
-        → (e : Ended) (m : Machine) → m ≡ now → e .cycles ≡ n → e .at ≡ at → ranTold (e .answer) ≡ accepted 0 → ranReason (e .answer) ≡ reason (now .core) budget n
+        → (e : Ended) (m : Machine) → m ≡ now → e .cycles ≡ n → e .at ≡ at → ranTold (e .answer) ≡ accepted 0 → ranReason (e .answer) ≡ reasonOf (now .core) n budget
         → EndsRun (codeOf image irq2) budget log₀ s e m log
     ends-spent h = ends (asks-spent image irq2 budget n at (length log₀) now (u .within) h)
 
@@ -157,7 +153,7 @@ module _ (image irq2 : List ℕ) (s : Machine) (budget : ℕ) (log₀ : List ℕ
           (ap (λ (ls : List ℕ). goes (now .core) (length ls) (length log - at)) (sym (lines-are image irq2 hit now is-hit)) ∙ sym e)
 
       pub ends-there : (t : Bool) → t ≡ false → t ≡ goes (now .core) (length (linesAtFetch image (atFetch hit now))) (length log - at)
-          → (e : Ended) (m : Machine) → m ≡ now → e .cycles ≡ n → e .at ≡ at → ranTold (e .answer) ≡ accepted 0 → ranReason (e .answer) ≡ reason (now .core) budget n
+          → (e : Ended) (m : Machine) → m ≡ now → e .cycles ≡ n → e .at ≡ at → ranTold (e .answer) ≡ accepted 0 → ranReason (e .answer) ≡ reasonOf (now .core) n budget
           → EndsRun (codeOf image irq2) budget log₀ s e m log
       ends-there t stays is = ends (asks-some image irq2 budget n at (length log₀) now (u .within) (asked t is ∙ stays))
 

@@ -43,7 +43,7 @@ pub record Good (w : Standing) : Type 0 where
 
 -- ---- the start, and one cycle
 
-good-fresh : (w : Standing) → Fresh w → Good w
+pub good-fresh : (w : Standing) → Fresh w → Good w
 good-fresh w f =
     record {
       image-size = f .image;
@@ -76,7 +76,7 @@ good-kept irq2 w g more =
 -- ---- run's questions
 
 -- What is told where only the irq2 list is asked.
-abbrev told-of : Bool → Told
+abbrev pub told-of : Bool → Told
 told-of up = firstNo ((12, up) ∷ []) 0 (accepted 0)
 
 module _ (w : Standing) (g : Good w) where
@@ -90,7 +90,7 @@ module _ (w : Standing) (g : Good w) where
       )
 
   -- They depend on the irq2 list alone.
-  told-right : (irq2 : List ℕ) → runTold lab irq2 w ≡ told-of (rising irq2)
+  pub told-right : (irq2 : List ℕ) → runTold lab irq2 w ≡ told-of (rising irq2)
   told-right irq2 = rw (lengths-right, sound-test (recordIn (w .state)) (g .sound))
 
 -- ---- return trips

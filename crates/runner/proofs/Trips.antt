@@ -1,4 +1,5 @@
--- Return trips made by real calls: what the contracts of a writer and of a reader promise is what demand 3 says of a trip. Assumes nothing.
+-- Return trips made by real calls: what the contracts of a writer and, where that accepts, of a reader promise is what demand 3 says of a trip. Assumes
+-- nothing.
 use Prim.Native.Nat.{ℕ}
 use mathlib.Core.Path.{_≡_, refl, _∙_, ap}
 use mathlib.Core.Bool.{Bool, true, false}
@@ -36,7 +37,8 @@ tripDone w k wrote got after = unlessRefused wrote (unlessRefused got (moved lab
 
 -- A text `file` is written into `space`, which is `sent` then, and what was written is read into a slice, which is `after` then.
 module _ (digits : ℕ) (isRight : Bool) (isRight' : ℕ → Bool) (file space into : List ℕ) (w : Written) (sent : List ℕ) (r : FileRead) (after : List ℕ)
-    (p : TextWritten isRight file space w sent) (q : MemoryRead digits isRight' (take (writtenTold w .count) sent) into r after) where
+    (p : TextWritten isRight file space w sent)
+    (q : writtenTold w .number ≡ 0 → MemoryRead digits isRight' (take (writtenTold w .count) sent) into r after) where
   abbrev wrote : Told
   wrote = fileWrites isRight file (length space)
 
@@ -54,6 +56,10 @@ module _ (digits : ℕ) (isRight : Bool) (isRight' : ℕ → Bool) (file space i
       let count : writtenTold w .count ≡ length file = ap (λ (t : Told). t .count) (p .answer) ∙ rw (right .0, fits .0) in
       rw (count, p .bytes, e, put-front space file room) (take-append-seam file _)
 
+  -- .. and it is read.
+  read : eqb (wrote .number) 0 ≡ true → MemoryRead digits isRight' (take (writtenTold w .count) sent) into r after
+  read e = q (ap (λ (t : Told). t .number) (p .answer) ∙ eqb-true (wrote .number) 0 e)
+
   -- The trip goes by the definitions.
   module _ (v : Standing) (put-in : List ℕ → Standing) where
     abbrev outcome : Told → Told → List ℕ → Done lab
@@ -64,7 +70,7 @@ module _ (digits : ℕ) (isRight : Bool) (isRight' : ℕ → Bool) (file space i
       where
         go : (t : Bool) → eqb (wrote .number) 0 ≡ t → outcome wrote (fileReadTold r) after ≡ outcome wrote got (fileWords (length into) (lines file))
         go false e = rw e
-        go true e = rw (e, q .answer, text-is e) (more (eqb (got .number) 0) refl (rw (text-is e) at (q .words)))
+        go true e = rw (e, read e .answer, text-is e) (more (eqb (got .number) 0) refl (rw (text-is e) at (read e .words)))
           where
             more : (u : Bool) → eqb (got .number) 0 ≡ u → after ≡ unlessRefused got (fileWords (length into) (lines file)) into
                 → unlessRefused got (moved lab (put-in after)) (refuse lab v [] got) ≡ unlessRefused got (moved lab (put-in (fileWords (length into) (lines file)))) (refuse lab v [] got)
@@ -74,25 +80,25 @@ module _ (digits : ℕ) (isRight : Bool) (isRight' : ℕ → Bool) (file space i
 -- The image, the data memory, the frame, and so many sectors of the disk from sector `first` on. `out` is what the writer is lent.
 module _ (v : Standing) (out space into : List ℕ) (w : Written) (sent : List ℕ) (r : FileRead) (after : List ℕ) where
   pub image-trip : TextWritten (isImageLength (length out)) (fileText imageDigits out) space w sent
-      → MemoryRead imageDigits isImageLength (take (writtenTold w .count) sent) into r after
+      → (writtenTold w .number ≡ 0 → MemoryRead imageDigits isImageLength (take (writtenTold w .count) sent) into r after)
       → tripDone v theImage (writtenTold w) (fileReadTold r) after ≡ tripCall lab v theImage out space into
   unfolding tripCall
   image-trip p q = goes-by imageDigits _ isImageLength (fileText imageDigits out) space into w sent r after p q v (λ l. place theImage l v)
 
   pub data-trip : TextWritten (isDataLength (length out)) (fileText wordDigits out) space w sent
-      → MemoryRead wordDigits isDataLength (take (writtenTold w .count) sent) into r after
+      → (writtenTold w .number ≡ 0 → MemoryRead wordDigits isDataLength (take (writtenTold w .count) sent) into r after)
       → tripDone v theData (writtenTold w) (fileReadTold r) after ≡ tripCall lab v theData out space into
   unfolding tripCall
   data-trip p q = goes-by wordDigits _ isDataLength (fileText wordDigits out) space into w sent r after p q v (λ l. place theData l v)
 
   pub frame-trip : TextWritten (isFrameLength (length out)) (fileText frameDigits out) space w sent
-      → MemoryRead frameDigits isFrameLength (take (writtenTold w .count) sent) into r after
+      → (writtenTold w .number ≡ 0 → MemoryRead frameDigits isFrameLength (take (writtenTold w .count) sent) into r after)
       → tripDone v theFrame (writtenTold w) (fileReadTold r) after ≡ tripCall lab v theFrame out space into
   unfolding tripCall
   frame-trip p q = goes-by frameDigits _ isFrameLength (fileText frameDigits out) space into w sent r after p q v (λ l. place theFrame l v)
 
   pub sectors-trip : (first sectors : ℕ) → TextWritten (isDiskPart (length out) first sectors) (fileText wordDigits (sectorsOf out first sectors)) space w sent
-      → MemoryRead wordDigits isPartLength (take (writtenTold w .count) sent) into r after
+      → (writtenTold w .number ≡ 0 → MemoryRead wordDigits isPartLength (take (writtenTold w .count) sent) into r after)
       → tripDone v (theSectors first sectors) (writtenTold w) (fileReadTold r) after ≡ tripCall lab v (theSectors first sectors) out space into
   unfolding tripCall
   sectors-trip first sectors p q =
@@ -102,7 +108,8 @@ module _ (v : Standing) (out space into : List ℕ) (w : Written) (sent : List �
 
 -- A record is saved in `bytes`, which are `sent` then, and those are read.
 module _ (v : Standing) (r : Record) (bytes sent : List ℕ) (a : Saved) (l : Loaded) (into : Record)
-    (p : (savedTold a ≡ saveTold r bytes) × (sent ≡ saveBytes r bytes)) (q : (loadedTold (l .answer) ≡ loadTold sent) × (l .state ≡ loadRecord sent)) where
+    (p : (savedTold a ≡ saveTold r bytes) × (sent ≡ saveBytes r bytes))
+    (q : savedTold a .number ≡ 0 → (loadedTold (l .answer) ≡ loadTold sent) × (l .state ≡ loadRecord sent)) where
   pub record-trip : tripDone v theRecord (savedTold a) (loadedTold (l .answer)) (l .state) ≡ tripCall lab v theRecord r bytes into
   unfolding tripCall
   record-trip = rw (p .0) (go (eqb (saveTold r bytes .number) 0) refl)
@@ -113,4 +120,5 @@ module _ (v : Standing) (r : Record) (bytes sent : List ℕ) (a : Saved) (l : Lo
       go false e = rw e
       go true e =
           let is : sent ≡ savedBytes r = p .1 ∙ rw e in
-          rw (e, q .0, q .1, is)
+          let read = q (ap (λ (t : Told). t .number) (p .0) ∙ eqb-true (saveTold r bytes .number) 0 e) in
+          rw (e, read .0, read .1, is)

@@ -1,9 +1,13 @@
 -- What a run tells and leaves: document 01's number, place and reason for each answer, and all of it together.
 use Prim.Native.Nat.{ℕ}
 use mathlib.Core.Path.{_≡_}
+use mathlib.Core.Bool.{cond, not}
 use mathlib.Core.List.{List, _++_}
+use lib.Dec.{eqb, leb}
 use lib.ListN.{length, take, drop}
 use Rattle.text.specs.Questions.{Told, accepted, refused}
+use Rattle.files.specs.Sizes.{cycleLimit}
+use Rattle.machine.specs.declared.Core.{Core}
 use Rattle.machine.specs.State.{Machine}
 use Rattle.claim.specs.Calls.{Done, runFrom}
 use Rattle.runner.specs.declared.RunReport.{RunReport}
@@ -12,7 +16,7 @@ use Rattle.runner.specs.declared.Ended.{Ended}
 use Rattle.runner.specs.Lab.{Code, simp, lab, machineOf}
 use Rattle.runner.specs.declared.RunAnswer.the-variants as RunAnswer
 
--- "Run: irq2 list strictly rising? 12. Record sound? 13."
+-- "All: are the lent lengths those above (..)? 1." "Run: irq2 list strictly rising? 12. Record sound? 13."
 abbrev pub ranTold : RunAnswer → Told
 ranTold RunAnswer.BudgetSpent = accepted 0
 ranTold RunAnswer.Stopped = accepted 0
@@ -33,8 +37,12 @@ ranReason RunAnswer.WrongLength = 0
 ranReason RunAnswer.NotRising = 0
 ranReason RunAnswer.Unsound = 0
 
+-- Why a machine with this status and age makes no further cycle, so many being made: the reason in document 01's order.
+abbrev pub reasonOf : Core → (cycles budget : ℕ) → ℕ
+reasonOf c cycles budget = cond (not (eqb (c .status) 0)) 1 (cond (eqb (c .age) cycleLimit) 3 (cond (leb budget cycles) 0 2))
+
 -- What a run returned, and the image, the memories and the log that it was lent, after it.
-abbrev pub doneOf : RunReport → List ℕ → List ℕ → List ℕ → List ℕ → List ℕ → Done lab
+abbrev pub doneOf : RunReport → (image memory disk frame log : List ℕ) → Done lab
 doneOf r image memory disk frame log =
     record {
       told = ranTold (r .answer);

@@ -51,10 +51,10 @@ Standing = World (List ℕ) Machine
 abbrev pub recordIn : Machine → Record
 recordIn m = record { core = m .core; regs = m .regs; io = m .io }
 
-abbrev pub machineOf : Record → List ℕ → List ℕ → List ℕ → Machine
+abbrev pub machineOf : Record → (memory disk frame : List ℕ) → Machine
 machineOf r memory disk frame = record { core = r .core; regs = r .regs; io = r .io; memory = memory; disk = disk; frame = frame }
 
-abbrev pub standingOf : List ℕ → Record → List ℕ → List ℕ → List ℕ → Standing
+abbrev pub standingOf : (image : List ℕ) → Record → (memory disk frame : List ℕ) → Standing
 standingOf image r memory disk frame = record { image = image; state = machineOf r memory disk frame }
 
 -- The lengths of document 01: 4,096 words of image and of data, 16,384 of disk, 65,536 bytes of frame.
@@ -69,8 +69,8 @@ areLengths w =
 abbrev pub runQuestions : List ℕ → Standing → List Question
 runQuestions irq2 w = (1, areLengths w) ∷ (12, rising irq2) ∷ (13, isSound (recordIn (w .state))) ∷ []
 
--- "It starts from the fresh record, any data memory, disk and frame, one image": memories of document 01's lengths, whose words have 32 bits (the
--- frame's 8).
+-- "It starts from the fresh record, any data memory, disk and frame, one image": an image and memories of document 01's lengths; words of 32 bits,
+-- bytes of 8.
 pub record Fresh (w : Standing) : Type 0 where
   pub record-is : w .state ≡ freshMachine (w .state .memory) (w .state .disk) (w .state .frame)
   pub image : length (w .image) ≡ imageWords
@@ -100,6 +100,7 @@ Carried theData = List ℕ
 Carried theFrame = List ℕ
 Carried (theSectors first sectors) = List ℕ
 
+-- What the writer is lent of what stands; of the disk, all of it.
 abbrev pub part : (k : Kind) → Standing → Carried k
 part theRecord w = recordIn (w .state)
 part theImage w = w .image

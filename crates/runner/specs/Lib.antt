@@ -2,3 +2,4 @@
 pub mod Lab
 pub mod Irq2Place
 pub mod Answers
+pub mod Examples

@@ -30,7 +30,7 @@ pub fn make_cycles(
     irq2: &[u64],
     budget: u64,
     log: &mut [u8],
-    table: &[u32; 512],
+    table: &[u64; 1024],
 ) -> Ended
     requires { ⌜ Sound start (drop 3 (now regs)) (now io) × (rising (now irq2) ≡ true) ⌝ }
     requires { ⌜ (length (now image) ≡ 4096) × (Kept (now regs) (now text) × (HexWords (now table) × Sized (now memory) (now disk) (now frame))) ⌝ }

@@ -4,7 +4,7 @@ use crate::RunAnswer;
 use machine::Core;
 use simulator::lengths::lines_length;
 ghost use mathlib.Core.Path.{_≡_};
-ghost use mathlib.Core.Bool.{cond, not, _&&_};
+ghost use mathlib.Core.Bool.{not, _&&_};
 ghost use mathlib.Core.List.{List};
 ghost use Prim.Native.Nat.{ℕ};
 ghost use lib.Dec.{eqb, leb};
@@ -15,7 +15,7 @@ ghost use Rattle.machine.specs.Cycle.{atFetch};
 ghost use Rattle.machine.specs.Log.{linesAtFetch};
 ghost use Rattle.machine.specs.Soundness.{Sound};
 ghost use Rattle.executor.specs.Lent.{packed};
-ghost use Rattle.runner.specs.Answers.{ranTold, ranReason};
+ghost use Rattle.runner.specs.Answers.{ranTold, ranReason, reasonOf};
 
 // The age at which no cycle is made.
 const CYCLE_LIMIT: u64 = 0xFF_FFFF_FFFF;
@@ -23,7 +23,7 @@ const CYCLE_LIMIT: u64 = 0xFF_FFFF_FFFF;
 // The most bytes that a cycle logs.
 const MOST_BYTES: usize = 231;
 
-// Whether the lent lengths are those of the memories.
+// Whether the lent lengths are those of document 01, the image's too.
 pub fn are_lengths(image: usize, memory: usize, disk: usize, frame: usize) -> bool
     ensures { λ r. ⌜ r ≡ (isImageLength image && isDataLength memory && isDiskLength disk && isFrameLength frame) ⌝ }
 {
@@ -68,7 +68,7 @@ pub fn may_cycle(
 // The end of a run whose machine makes no further cycle: why, in the order in which a run asks.
 pub fn ended(c: Core, cycles: u64, budget: u64, at: usize) -> Ended
     ensures { λ r. ⌜ (r .core ≡ c) × ((r .cycles ≡ cycles) × (r .at ≡ at)) ⌝ }
-    ensures { λ r. ⌜ (ranTold (r .answer) ≡ accepted 0) × (ranReason (r .answer) ≡ cond (not (eqb (c .status) 0)) 1 (cond (eqb (c .age) cycleLimit) 3 (cond (leb budget cycles) 0 2))) ⌝ }
+    ensures { λ r. ⌜ (ranTold (r .answer) ≡ accepted 0) × (ranReason (r .answer) ≡ reasonOf c cycles budget) ⌝ }
 {
     Ended {
         core: c,
@@ -80,7 +80,7 @@ pub fn ended(c: Core, cycles: u64, budget: u64, at: usize) -> Ended
 
 // Why a machine makes no further cycle.
 fn why(c: Core, cycles: u64, budget: u64) -> RunAnswer
-    ensures { λ r. ⌜ (ranTold r ≡ accepted 0) × (ranReason r ≡ cond (not (eqb (c .status) 0)) 1 (cond (eqb (c .age) cycleLimit) 3 (cond (leb budget cycles) 0 2))) ⌝ }
+    ensures { λ r. ⌜ (ranTold r ≡ accepted 0) × (ranReason r ≡ reasonOf c cycles budget) ⌝ }
 {
     if c.status != 0 {
         return RunAnswer::Stopped;

@@ -43,7 +43,7 @@ pub fn cycle(
     frame: &mut [u8],
     log: &mut [u8],
     at: usize,
-    table: &[u32; 512],
+    table: &[u64; 1024],
 ) -> Step
     requires { ⌜ Sound c (drop 3 (now regs)) (now io) ⌝ }
     requires { ⌜ (length (now image) ≡ 4096) × (Kept (now regs) (now text) × (HexWords (now table) × Sized (now memory) (now disk) (now frame))) ⌝ }
@@ -85,7 +85,7 @@ fn fetch_and_execute(
     frame: &mut [u8],
     log: &mut [u8],
     at: usize,
-    table: &[u32; 512],
+    table: &[u64; 1024],
 ) -> Step
     requires { ⌜ (c .pc < 4096) × (length (now image) ≡ 4096) ⌝ }
     requires { ⌜ Kept (now regs) (now text) × (HexWords (now table) × Ready (now io) (now memory) (now disk) (now frame)) ⌝ }
@@ -135,7 +135,7 @@ fn put_lines(
     regs: &[u32; 16],
     text: &[u8; 118],
     io: &[u32; 23],
-    table: &[u32; 512],
+    table: &[u64; 1024],
 ) -> usize
     requires { ⌜ (at + length (lineT (c .pc) word (now regs) ++ ioLines (c .age) (operationOf op) o (now io)) ≤ length (now log)) × (Kept (now regs) (now text) × HexWords (now table)) ⌝ }
     ensures { λ r. ⌜ (now (log .exit) ≡ put (now (log .entry)) at (lineT (c .pc) word (now (regs .entry)) ++ ioLines (c .age) (operationOf op) o (now (io .entry)))) × (r ≡ at + length (lineT (c .pc) word (now (regs .entry)) ++ ioLines (c .age) (operationOf op) o (now (io .entry)))) ⌝ }

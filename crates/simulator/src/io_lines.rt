@@ -26,7 +26,7 @@ pub fn put_io_lines(
     op: u32,
     o: Operands,
     io: &[u32; 23],
-    table: &[u32; 512],
+    table: &[u64; 1024],
 ) -> usize
     requires { ⌜ (at + length (ioLines c (operationOf op) o (now io)) ≤ length (now log)) × HexWords (now table) ⌝ }
     ensures { λ r. ⌜ (now (log .exit) ≡ put (now (log .entry)) at (ioLines c (operationOf op) o (now (io .entry)))) × (r ≡ at + length (ioLines c (operationOf op) o (now (io .entry)))) ⌝ }
@@ -45,7 +45,7 @@ fn put_read_line(
     c: u64,
     o: Operands,
     io: &[u32; 23],
-    table: &[u32; 512],
+    table: &[u64; 1024],
 ) -> usize
     requires { ⌜ (at + length (ioLines c input o (now io)) ≤ length (now log)) × HexWords (now table) ⌝ }
     ensures { λ r. ⌜ (now (log .exit) ≡ put (now (log .entry)) at (ioLines c input o (now (io .entry)))) × (r ≡ at + length (ioLines c input o (now (io .entry)))) ⌝ }
@@ -64,7 +64,7 @@ fn put_write_lines(
     c: u64,
     o: Operands,
     io: &[u32; 23],
-    table: &[u32; 512],
+    table: &[u64; 1024],
 ) -> usize
     requires { ⌜ (at + length (ioLines c output o (now io)) ≤ length (now log)) × HexWords (now table) ⌝ }
     ensures { λ r. ⌜ (now (log .exit) ≡ put (now (log .entry)) at (ioLines c output o (now (io .entry)))) × (r ≡ at + length (ioLines c output o (now (io .entry)))) ⌝ }
@@ -85,7 +85,7 @@ fn put_change_line(
     n: u32,
     x: u32,
     io: &[u32; 23],
-    table: &[u32; 512],
+    table: &[u64; 1024],
 ) -> usize
     requires { ⌜ (at + length (changeLines c n x (now io)) ≤ length (now log)) × HexWords (now table) ⌝ }
     ensures { λ r. ⌜ (now (log .exit) ≡ put (now (log .entry)) at (changeLines c n x (now (io .entry)))) × (r ≡ at + length (changeLines c n x (now (io .entry)))) ⌝ }
@@ -105,7 +105,7 @@ fn put_if_new(
     c: u64,
     x: u32,
     before: u32,
-    table: &[u32; 512],
+    table: &[u64; 1024],
 ) -> usize
     requires { ⌜ (at + length (cond (not (eqb x before)) (lineLD (letter ∷ []) c x) []) ≤ length (now log)) × HexWords (now table) ⌝ }
     ensures { λ r. ⌜ (now (log .exit) ≡ put (now (log .entry)) at (cond (not (eqb x before)) (lineLD (letter ∷ []) c x) [])) × (r ≡ at + length (cond (not (eqb x before)) (lineLD (letter ∷ []) c x) [])) ⌝ }

@@ -2,13 +2,13 @@
 use Prim.Native.Nat.{ℕ, zero, suc, _+_, _-_, _*_, _/_, _%_, _^_, _≤_, _<_}
 use mathlib.Core.Path.{_≡_, refl, sym, _∙_, ap}
 use mathlib.Core.List.{List, _∷_, _++_}
-use native.Mathlib.Nat.{zero-add, suc-add, add-mul-mod-self-right, add-mul-div-right, mod-eq-of-lt, div-eq-of-lt, div-one, div-div-eq-div-mul, pow-zero, pow-succ', mod-lt, pow-suc, mul-one}
+use native.Mathlib.Nat.{zero-add, suc-add, add-mul-mod-self-right, add-mul-div-right, mod-eq-of-lt, div-eq-of-lt, div-one, div-div-eq-div-mul, pow-zero, pow-succ', mod-lt, pow-suc, mul-one, mul-assoc, pow-le-pow-right, one-le-pow, lt-of-lt-of-le, mul-lt-mul-of-pos-right, mul-le-mul-left}
 use native.Mathlib.Omega.{arith}
 use lib.ListN.{length, getD}
 use Rattle.text.specs.Numerals.{digit, digits, lowBytes, HexDigits, HexWords}
 use Rattle.text.specs.Place.{put}
 use Rattle.text.proofs.PutLaws.{put-append}
-use Rattle.text.proofs.DigitLaws.{digit-lt, digits-split, digits-low, length-digits}
+use Rattle.text.proofs.DigitLaws.{digit-lt, digits-split, digits-low}
 
 -- ---- the low bytes of a number
 
@@ -94,19 +94,16 @@ paired-bytes (suc k) x = let two : suc k * 2 ≡ suc (suc (k * 2)) = omega arith
 pub entry-pair : (t : List ℕ) (n : ℕ) → HexWords t → n < 256 → getD t n 0 ≡ pair n
 entry-pair t n w h = rw (zero-add, pow-zero, mul-one) at (w 0 n (omega arith) h)
 
--- The sum of the two entries of half a word has all its digits.
-pub entries-sum : (t : List ℕ) (x : ℕ) → HexWords t → x < 65536 → getD t (x / 256) 0 + getD t (256 + x % 256) 0 ≡ paired 2 x
+-- The sum of a word's four entries has all its digits.
+pub entries-sum : (t : List ℕ) (x : ℕ) → HexWords t → x < 2 ^ 32
+    → getD t (x / 16777216) 0 + getD t (256 + x / 65536 % 256) 0 + getD t (512 + x / 256 % 256) 0 + getD t (768 + x % 256) 0 ≡ paired 4 x
 entries-sum t x w h =
-    let a = entry-pair t (x / 256) w (omega arith) in
-    let b = w 1 (x % 256) (omega arith) (omega arith) in
-    let first : x / 256 % 256 ≡ x / 256 = mod-eq-of-lt {m = 256} (omega arith) in
+    let a = entry-pair t (x / 16777216) w (omega arith) in
+    let b = w 1 (x / 65536 % 256) (omega arith) (omega arith) in
+    let c = w 2 (x / 256 % 256) (omega arith) (omega arith) in
+    let d = w 3 (x % 256) (omega arith) (omega arith) in
+    let first : x / 16777216 % 256 ≡ x / 16777216 = mod-eq-of-lt {m = 256} (omega arith) in
     rw (first, div-one) (omega arith)
-
--- The digits of both halves are those of the word.
-pub halves : (d e f : List ℕ) (at x : ℕ) → e ≡ put d at (digits 16 4 (x / 65536)) → f ≡ put e (at + 4) (digits 16 4 (x % 65536)) → f ≡ put d at (digits 16 8 x)
-halves d e f at x p q =
-    q ∙ ap (λ (l : List ℕ). put l (at + 4) (digits 16 4 (x % 65536))) p
-    ∙ sym (rw (digits-split 16 (omega arith) 4 4 x, put-append, length-digits))
 
 -- The pair of a byte from the sixteen digits, which fits 64 bits.
 module _ (one : List ℕ) (n : ℕ) (w : HexDigits one) (h : n < 256) where
@@ -118,7 +115,7 @@ module _ (one : List ℕ) (n : ℕ) (w : HexDigits one) (h : n < 256) where
 
 -- ---- filling it
 
--- What entry k holds: the pair of its byte, moved by its half.
+-- What entry k holds: the pair of its byte, moved by its quarter.
 abbrev pub entry : ℕ → ℕ
 entry k = pair (k % 256) * 65536 ^ (k / 256)
 
@@ -128,22 +125,30 @@ entry-low k h =
     let half : k / 256 ≡ 0 = omega arith in
     rw (low, half, pow-zero, mul-one)
 
-pub entry-high : (k : ℕ) → 256 ≤ k → k < 512 → entry k ≡ pair (k - 256) * 65536
-entry-high k h j =
-    let low : k % 256 ≡ k - 256 = omega arith in
-    let half : k / 256 ≡ 1 = omega arith in
-    rw (low, half)
+pub entry-next : (k : ℕ) → 256 ≤ k → entry k ≡ entry (k - 256) * 65536
+entry-next k h =
+    let low : k % 256 ≡ (k - 256) % 256 = omega arith in
+    let half : k / 256 ≡ suc ((k - 256) / 256) = omega arith in
+    rw (low, half, pow-suc) (sym (mul-assoc (pair ((k - 256) % 256)) (65536 ^ ((k - 256) / 256)) 65536))
 
-pub entry-at : (i n : ℕ) → i < 2 → n < 256 → entry (256 * i + n) ≡ pair n * 65536 ^ i
+-- It fits the pairs that it has.
+entry-lt : (k : ℕ) → k < 768 → entry k < 65536 ^ 3
+entry-lt k h =
+    let first = pair-lt (k % 256) (omega arith) in
+    let few : k / 256 ≤ 2 = omega arith in
+    let most : 65536 ^ (k / 256) ≤ 65536 ^ 2 = pow-le-pow-right {n = 65536} (omega arith) few in
+    lt-of-lt-of-le (mul-lt-mul-of-pos-right first (one-le-pow (k / 256) 65536 (omega arith))) (mul-le-mul-left 65536 most)
+
+pub entry-at : (i n : ℕ) → i < 4 → n < 256 → entry (256 * i + n) ≡ pair n * 65536 ^ i
 entry-at i n h j =
     let low : (256 * i + n) % 256 ≡ n = omega arith in
     let half : (256 * i + n) / 256 ≡ i = omega arith in
     rw (low, half)
 
--- An entry of the first half has room to be moved, and moved it is that of the second half.
-module _ (t : List ℕ) (k : ℕ) (h : 256 ≤ k) (j : k < 512) (filled : getD t (k - 256) 0 ≡ entry (k - 256)) where
-  pub movable : getD t (k - 256) 0 < 65536
-  movable = rw (filled, entry-low (k - 256) (omega arith)) (pair-lt (k - 256) (omega arith))
+-- An entry has room to be moved, and moved it is the one a quarter later.
+module _ (t : List ℕ) (k : ℕ) (h : 256 ≤ k) (j : k < 1024) (filled : getD t (k - 256) 0 ≡ entry (k - 256)) where
+  pub movable : getD t (k - 256) 0 < 65536 ^ 3
+  movable = rw filled (entry-lt (k - 256) (omega arith))
 
   pub moved-on : (x : ℕ) → x ≡ getD t (k - 256) 0 * 65536 → x ≡ entry k
-  moved-on x e = rw (e, filled, entry-low (k - 256) (omega arith), entry-high k h j)
+  moved-on x e = rw (e, filled, entry-next k h)

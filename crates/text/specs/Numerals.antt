@@ -79,9 +79,9 @@ HexDigits t = (n : ℕ) → n < 16 → getD t n 0 ≡ digit n
 abbrev pub HexPairs : List ℕ → Type 0
 HexPairs t = (n : ℕ) → n < 256 → getD t n 0 ≡ digit (n / 16) + digit (n % 16) * 256
 
--- Entry 256 * i + n has the same, moved left by i pairs, of which there are two.
+-- Entry 256 * i + n has the same, moved left by i pairs, for i below 4.
 abbrev pub HexWords : List ℕ → Type 0
-HexWords t = (i n : ℕ) → i < 2 → n < 256 → getD t (256 * i + n) 0 ≡ (digit (n / 16) + digit (n % 16) * 256) * 65536 ^ i
+HexWords t = (i n : ℕ) → i < 4 → n < 256 → getD t (256 * i + n) 0 ≡ (digit (n / 16) + digit (n % 16) * 256) * 65536 ^ i
 
 -- The k low bytes of a number, the lowest first (for the code, which stores a number that holds digits: `paired-bytes` ties it to `digits`).
 unfoldable pub lowBytes : ℕ → ℕ → List ℕ

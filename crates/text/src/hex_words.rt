@@ -1,4 +1,4 @@
-// Eight hexadecimal digits in two stores, by a table in which one sum joins two pairs.
+// Eight hexadecimal digits in one store, by a table in which one sum joins four pairs.
 use crate::digits::digit;
 ghost use mathlib.Core.Path.{_≡_};
 ghost use Prim.Native.Nat.{_+_, _*_, _/_, _%_, _^_, _≤_, _<_};
@@ -6,21 +6,21 @@ ghost use lib.ListN.{length};
 ghost use Rattle.text.specs.Numerals.{digit as digitOf, digits, lowBytes, HexDigits, HexPairs, HexWords};
 ghost use Rattle.text.specs.Place.{put};
 
-// The table: entry n has the two digits of the byte n, entry 256 + n the same moved left by a pair.
-pub fn hex_words() -> [u32; 512]
+// The table: entry 256 * i + n has the two digits of the byte n, moved left by i pairs.
+pub fn hex_words() -> [u64; 1024]
     ensures { λ r. ⌜ HexWords r ⌝ }
 {
     let one = wide_digits();
-    let mut words = [0u32; 512];
+    let mut words = [0u64; 1024];
     fill_pairs(&mut words, &one);
     move_pairs(&mut words);
     words
 }
 
-// Fills the first half: the pairs.
-fn fill_pairs(words: &mut [u32; 512], one: &[u32; 16])
-    requires { ⌜ (length (now words) ≡ 512) × HexDigits (now one) ⌝ }
-    ensures { λ _. ⌜ (length (now (words .exit)) ≡ 512) × HexPairs (now (words .exit)) ⌝ }
+// Fills the first quarter: the pairs.
+fn fill_pairs(words: &mut [u64; 1024], one: &[u64; 16])
+    requires { ⌜ (length (now words) ≡ 1024) × HexDigits (now one) ⌝ }
+    ensures { λ _. ⌜ (length (now (words .exit)) ≡ 1024) × HexPairs (now (words .exit)) ⌝ }
 {
     let mut n = 0;
     while n < 256 {
@@ -29,31 +29,31 @@ fn fill_pairs(words: &mut [u32; 512], one: &[u32; 16])
     }
 }
 
-// Fills the second half: the pairs, moved.
-fn move_pairs(words: &mut [u32; 512])
-    requires { ⌜ (length (now words) ≡ 512) × HexPairs (now words) ⌝ }
+// Fills the other quarters: each is the one before it, moved.
+fn move_pairs(words: &mut [u64; 1024])
+    requires { ⌜ (length (now words) ≡ 1024) × HexPairs (now words) ⌝ }
     ensures { λ _. ⌜ HexWords (now (words .exit)) ⌝ }
 {
     let mut n = 256;
-    while n < 512 {
+    while n < 1024 {
         words[n] = moved(words[n - 256]);
         n += 1;
     }
 }
 
-// A pair moved left by a pair.
-fn moved(pair: u32) -> u32
-    requires { ⌜ pair < 65536 ⌝ }
-    ensures { λ r. ⌜ r ≡ pair * 65536 ⌝ }
+// An entry moved left by a pair.
+fn moved(x: u64) -> u64
+    requires { ⌜ x < 65536 ^ 3 ⌝ }
+    ensures { λ r. ⌜ r ≡ x * 65536 ⌝ }
 {
-    pair * 0x1_0000
+    x * 0x1_0000
 }
 
 // The sixteen hexadecimal digits.
-fn wide_digits() -> [u32; 16]
+fn wide_digits() -> [u64; 16]
     ensures { λ r. ⌜ HexDigits r ⌝ }
 {
-    let mut one = [0u32; 16];
+    let mut one = [0u64; 16];
     let mut n = 0;
     while n < 16 {
         one[n] = wide(digit((n % 16) as u8));
@@ -62,15 +62,15 @@ fn wide_digits() -> [u32; 16]
     one
 }
 
-// A byte in 32 bits.
-fn wide(x: u8) -> u32
+// A byte in 64 bits.
+fn wide(x: u8) -> u64
     ensures { λ r. ⌜ r ≡ x ⌝ }
 {
-    x as u32
+    x as u64
 }
 
 // The two digits of the byte n, the first in the low byte.
-fn wide_pair(one: &[u32; 16], n: usize) -> u32
+fn wide_pair(one: &[u64; 16], n: usize) -> u64
     requires { ⌜ (n < 256) × HexDigits (now one) ⌝ }
     ensures { λ r. ⌜ r ≡ digitOf (n / 16) + digitOf (n % 16) * 256 ⌝ }
 {
@@ -78,7 +78,7 @@ fn wide_pair(one: &[u32; 16], n: usize) -> u32
 }
 
 // Lays the two hexadecimal digits of a byte at a place.
-pub fn put_hex_byte(out: &mut [u8], at: usize, n: usize, words: &[u32; 512])
+pub fn put_hex_byte(out: &mut [u8], at: usize, n: usize, words: &[u64; 1024])
     requires { ⌜ (at + 2 ≤ length (now out)) × ((n < 256) × HexWords (now words)) ⌝ }
     ensures { λ _. ⌜ now (out .exit) ≡ put (now (out .entry)) at (digits 16 2 n) ⌝ }
 {
@@ -86,43 +86,46 @@ pub fn put_hex_byte(out: &mut [u8], at: usize, n: usize, words: &[u32; 512])
 }
 
 // Lays the eight hexadecimal digits of a word at a place.
-pub fn put_hex_word(out: &mut [u8], at: usize, x: u32, words: &[u32; 512])
+pub fn put_hex_word(out: &mut [u8], at: usize, x: u32, words: &[u64; 1024])
     requires { ⌜ (at + 8 ≤ length (now out)) × HexWords (now words) ⌝ }
     ensures { λ _. ⌜ now (out .exit) ≡ put (now (out .entry)) at (digits 16 8 x) ⌝ }
 {
-    put_half(out, at, x / 0x1_0000, words);
-    put_half(out, at + 4, x % 0x1_0000, words);
+    put_eight(out, at, hex_word(x, words));
 }
 
-// Lays the four hexadecimal digits of half a word at a place.
-fn put_half(out: &mut [u8], at: usize, x: u32, words: &[u32; 512])
-    requires { ⌜ (at + 4 ≤ length (now out)) × ((x < 65536) × HexWords (now words)) ⌝ }
-    ensures { λ _. ⌜ now (out .exit) ≡ put (now (out .entry)) at (digits 16 4 x) ⌝ }
+// The eight hexadecimal digits of a word, the first in the low byte.
+fn hex_word(x: u32, words: &[u64; 1024]) -> u64
+    requires { ⌜ HexWords (now words) ⌝ }
+    ensures { λ r. ⌜ lowBytes 8 r ≡ digits 16 8 x ⌝ }
 {
-    let first = words[(x / 256) as usize];
-    let second = words[(256 + x % 256) as usize];
-    put_four(out, at, join(first, second));
+    let a = words[(x / 0x100_0000) as usize];
+    let b = words[(256 + x / 0x1_0000 % 256) as usize];
+    let c = words[(512 + x / 256 % 256) as usize];
+    let d = words[(768 + x % 256) as usize];
+    join(a, b, c, d)
 }
 
-// Entries that have no byte in common: the sum has the bytes of both.
-fn join(a: u32, b: u32) -> u32
-    requires { ⌜ a + b < 2 ^ 32 ⌝ }
-    ensures { λ r. ⌜ r ≡ a + b ⌝ }
+// Entries that have no byte in common: the sum has the bytes of all.
+fn join(a: u64, b: u64, c: u64, d: u64) -> u64
+    requires { ⌜ a + b + c + d < 2 ^ 64 ⌝ }
+    ensures { λ r. ⌜ r ≡ a + b + c + d ⌝ }
 {
-    a + b
+    a + b + c + d
 }
 
-// Lays the four bytes of a number at a place, the lowest first: they become one store.
-fn put_four(out: &mut [u8], at: usize, v: u32)
-    requires { ⌜ at + 4 ≤ length (now out) ⌝ }
-    ensures { λ _. ⌜ now (out .exit) ≡ put (now (out .entry)) at (lowBytes 4 v) ⌝ }
+// Lays the eight bytes of a number at a place, the lowest first: they become one store.
+fn put_eight(out: &mut [u8], at: usize, v: u64)
+    requires { ⌜ at + 8 ≤ length (now out) ⌝ }
+    ensures { λ _. ⌜ now (out .exit) ≡ put (now (out .entry)) at (lowBytes 8 v) ⌝ }
 {
     put_two(out, at, v);
     put_two(out, at + 2, v / 0x1_0000);
+    put_two(out, at + 4, v / 0x1_0000_0000);
+    put_two(out, at + 6, v / 0x1_0000_0000_0000);
 }
 
 // Lays the two low bytes of a number at a place, the lowest first.
-fn put_two(out: &mut [u8], at: usize, v: u32)
+fn put_two(out: &mut [u8], at: usize, v: u64)
     requires { ⌜ at + 2 ≤ length (now out) ⌝ }
     ensures { λ _. ⌜ now (out .exit) ≡ put (now (out .entry)) at (lowBytes 2 v) ⌝ }
 {

@@ -15,7 +15,7 @@ ghost use Rattle.isa.specs.Registers.{ioName};
 ghost use Rattle.trace.specs.LogLines.{field, wayOf};
 
 // A word in hexadecimal; returns the place after it.
-pub fn put_word(out: &mut [u8], at: usize, x: u32, table: &[u32; 512]) -> usize
+pub fn put_word(out: &mut [u8], at: usize, x: u32, table: &[u64; 1024]) -> usize
     requires { ⌜ (at + 9 ≤ length (now out)) × HexWords (now table) ⌝ }
     ensures { λ r. ⌜ (now (out .exit) ≡ put (now (out .entry)) at (field (digits 16 8 x))) × (r ≡ at + 9) ⌝ }
 {
@@ -25,7 +25,7 @@ pub fn put_word(out: &mut [u8], at: usize, x: u32, table: &[u32; 512]) -> usize
 }
 
 // A word in hexadecimal that ends its line; returns the place after the LF.
-pub fn put_last_word(out: &mut [u8], at: usize, x: u32, table: &[u32; 512]) -> usize
+pub fn put_last_word(out: &mut [u8], at: usize, x: u32, table: &[u64; 1024]) -> usize
     requires { ⌜ (at + 10 ≤ length (now out)) × HexWords (now table) ⌝ }
     ensures { λ r. ⌜ (now (out .exit) ≡ put (now (out .entry)) at (field (digits 16 8 x) ++ (lf ∷ []))) × (r ≡ at + 10) ⌝ }
 {

@@ -28,7 +28,7 @@ pub fn put_line_t(
     imm1: u32,
     imm2: u32,
     kept: &[u8; 118],
-    table: &[u32; 512],
+    table: &[u64; 1024],
 ) -> usize
     requires { ⌜ (at + 163 ≤ length (now out)) × ((length (now kept) ≡ 118) × HexWords (now table)) ⌝ }
     ensures { λ r. ⌜ (now (out .exit) ≡ put (now (out .entry)) at (frontT pc word imm1 imm2 ++ now (kept .entry))) × (r ≡ at + 163) ⌝ }
@@ -39,7 +39,7 @@ pub fn put_line_t(
 }
 
 // The front of a T line, 18 bytes: its letter, PC and the word.
-fn put_instruction(out: &mut [u8], at: usize, pc: u32, word: u64, table: &[u32; 512])
+fn put_instruction(out: &mut [u8], at: usize, pc: u32, word: u64, table: &[u64; 1024])
     requires { ⌜ (at + 18 ≤ length (now out)) × HexWords (now table) ⌝ }
     ensures { λ _. ⌜ now (out .exit) ≡ put (now (out .entry)) at (bytes "T" ++ field (digits 16 3 pc) ++ field (digits 16 12 word)) ⌝ }
 {
@@ -51,7 +51,7 @@ fn put_instruction(out: &mut [u8], at: usize, pc: u32, word: u64, table: &[u32; 
 }
 
 // PC, 3 digits.
-fn put_pc(out: &mut [u8], at: usize, pc: u32, table: &[u32; 512])
+fn put_pc(out: &mut [u8], at: usize, pc: u32, table: &[u64; 1024])
     requires { ⌜ (at + 3 ≤ length (now out)) × HexWords (now table) ⌝ }
     ensures { λ _. ⌜ now (out .exit) ≡ put (now (out .entry)) at (digits 16 3 pc) ⌝ }
 {
@@ -60,7 +60,7 @@ fn put_pc(out: &mut [u8], at: usize, pc: u32, table: &[u32; 512])
 }
 
 // The word, 12 digits.
-fn put_code(out: &mut [u8], at: usize, word: u64, table: &[u32; 512])
+fn put_code(out: &mut [u8], at: usize, word: u64, table: &[u64; 1024])
     requires { ⌜ (at + 12 ≤ length (now out)) × HexWords (now table) ⌝ }
     ensures { λ _. ⌜ now (out .exit) ≡ put (now (out .entry)) at (digits 16 12 word) ⌝ }
 {
@@ -70,7 +70,7 @@ fn put_code(out: &mut [u8], at: usize, word: u64, table: &[u32; 512])
 }
 
 // R0, which is 0, and R1 and R2, the immediates: 27 bytes.
-fn put_low_registers(out: &mut [u8], at: usize, imm1: u32, imm2: u32, table: &[u32; 512])
+fn put_low_registers(out: &mut [u8], at: usize, imm1: u32, imm2: u32, table: &[u64; 1024])
     requires { ⌜ (at + 27 ≤ length (now out)) × HexWords (now table) ⌝ }
     ensures { λ _. ⌜ now (out .exit) ≡ put (now (out .entry)) at (field (digits 16 8 0) ++ field (digits 16 8 imm1) ++ field (digits 16 8 imm2)) ⌝ }
 {
@@ -87,7 +87,7 @@ pub fn put_line_h(
     writes: bool,
     n: u32,
     x: u32,
-    table: &[u32; 512],
+    table: &[u64; 1024],
 ) -> usize
     requires { ⌜ (at + length (lineH c (wayOf writes) n x) ≤ length (now out)) × HexWords (now table) ⌝ }
     ensures { λ r. ⌜ (now (out .exit) ≡ put (now (out .entry)) at (lineH c (wayOf writes) n x)) × (r ≡ at + length (lineH c (wayOf writes) n x)) ⌝ }
@@ -105,7 +105,7 @@ pub fn put_line_ld(
     letter: u8,
     c: u64,
     x: u32,
-    table: &[u32; 512],
+    table: &[u64; 1024],
 ) -> usize
     requires { ⌜ (at + length (lineLD (letter ∷ []) c x) ≤ length (now out)) × HexWords (now table) ⌝ }
     ensures { λ r. ⌜ (now (out .exit) ≡ put (now (out .entry)) at (lineLD (letter ∷ []) c x)) × (r ≡ at + length (lineLD (letter ∷ []) c x)) ⌝ }

@@ -10,7 +10,7 @@ ghost use Rattle.text.specs.Place.{put};
 ghost use Rattle.trace.specs.LogLines.{registersText};
 
 // Lays the text of R3 to R15.
-pub fn lay_registers(kept: &mut [u8; 118], regs: &[u32; 16], table: &[u32; 512])
+pub fn lay_registers(kept: &mut [u8; 118], regs: &[u32; 16], table: &[u64; 1024])
     requires { ⌜ (length (now kept) ≡ 118) × ((length (now regs) ≡ 16) × HexWords (now table)) ⌝ }
     ensures { λ _. ⌜ now (kept .exit) ≡ registersText (drop 3 (now (regs .entry))) ⌝ }
 {
@@ -24,7 +24,7 @@ pub fn lay_registers(kept: &mut [u8; 118], regs: &[u32; 16], table: &[u32; 512])
 }
 
 // Changes the text where the register n of R3 to R15, counted from 0, becomes x (`text-set`).
-pub fn keep_register(kept: &mut [u8; 118], n: usize, x: u32, table: &[u32; 512])
+pub fn keep_register(kept: &mut [u8; 118], n: usize, x: u32, table: &[u64; 1024])
     requires { ⌜ (n < 13) × ((length (now kept) ≡ 118) × HexWords (now table)) ⌝ }
     ensures { λ _. ⌜ now (kept .exit) ≡ put (now (kept .entry)) (n * 9 + 1) (digits 16 8 x) ⌝ }
 {

@@ -10,7 +10,7 @@ use Rattle.text.proofs.hex_words.fill_pairs.Statement.{statement}
 use Rattle.text.proofs.hex_words.fill_pairs.Tie as tie
 
 abbrev Inv-loop : tie.InvT-loop
-Inv-loop words₀ one n₀ words n = (length words ≡ 512) × ((n ≤ 256) × ((k : ℕ) → k < n → getD words k 0 ≡ pair k))
+Inv-loop words₀ one n₀ words n = (length words ≡ 1024) × ((n ≤ 256) × ((k : ℕ) → k < n → getD words k 0 ≡ pair k))
 
 abbrev μ-loop : tie.MeasureT-loop
 μ-loop words₀ one n₀ words n = 256 - n

@@ -9,10 +9,10 @@ use Rattle.text.proofs.hex_words.move_pairs.Statement.{statement}
 use Rattle.text.proofs.hex_words.move_pairs.Tie as tie
 
 abbrev Inv-loop : tie.InvT-loop
-Inv-loop words₀ n₀ words n = (length words ≡ 512) × ((256 ≤ n) × ((n ≤ 512) × ((k : ℕ) → k < n → getD words k 0 ≡ entry k)))
+Inv-loop words₀ n₀ words n = (length words ≡ 1024) × ((256 ≤ n) × ((n ≤ 1024) × ((k : ℕ) → k < n → getD words k 0 ≡ entry k)))
 
 abbrev μ-loop : tie.MeasureT-loop
-μ-loop words₀ n₀ words n = 512 - n
+μ-loop words₀ n₀ words n = 1024 - n
 
 loop-holds : tie.Need-loop-holds Inv-loop μ-loop
 loop-holds c = (c .pre .0, (omega arith, (omega arith, λ k h. c .pre .1 k h ∙ sym (entry-low k h))))

@@ -23,11 +23,11 @@ same-length c = search needs
 
 returns : tie.Need-returns
 returns c =
-    let a = c .before .before .before .before .before .before .args in
-    let p = c .before .before .before .before .before .before .pre in
+    let s = c .before .before .before .before .before .before in
+    let a = s .args in
     c .before .before .put-two .ensures
-    ∙ ap (λ (v : ℕ). put (a .out .now) (a .at) (lowBytes 2 v)) (entry-pair (a .words .now) (a .n) (p .1 .1) (p .1 .0))
-    ∙ ap (λ (l : List ℕ). put (a .out .now) (a .at) l) (pair-bytes (a .n) (p .1 .0))
+    ∙ ap (λ (v : ℕ). put (a .out .now) (a .at) (lowBytes 2 v)) (entry-pair (a .words .now) (a .n) (s .pre .1 .1) (s .pre .1 .0))
+    ∙ ap (λ (l : List ℕ). put (a .out .now) (a .at) l) (pair-bytes (a .n) (s .pre .1 .0))
 
 pub put-hex-byte-spec : {M : Type 1} → statement M
 put-hex-byte-spec =

@@ -1,24 +1,25 @@
 -- `text::hex_words::put_hex_word` meets its contract.
+use Prim.Native.Nat.{ℕ}
+use mathlib.Core.Path.{_∙_, ap}
+use mathlib.Core.List.{List}
 use borrow.Author.Needs.{needs}
-use Rattle.text.proofs.HexWordLaws.{halves}
+use Rattle.text.specs.Place.{put}
 use Rattle.text.proofs.hex_words.put_hex_word.Statement.{statement}
 use Rattle.text.proofs.hex_words.put_hex_word.Tie as tie
 
-put-half-requires : tie.Need-put-half-requires
-put-half-requires c κs = search needs
+hex-word-requires : tie.Need-hex-word-requires
+hex-word-requires c κs = search needs
 
-add-put-half : tie.Need-add-put-half
-add-put-half c = search needs
-
-put-half-requires-2 : tie.Need-put-half-requires-2
-put-half-requires-2 c κs = search needs
+put-eight-requires : tie.Need-put-eight-requires
+put-eight-requires c κs = search needs
 
 same-length : tie.Need-same-length
 same-length c = search needs
 
 returns : tie.Need-returns
-returns c = let a = c .before .before .before .before .before .before .before .before .before .args in halves (a .out .now) _ _ (a .at) (a .x) (c .before .before .before .before .before .before .put-half .ensures) (c .before .before .put-half2 .ensures)
+returns c =
+    let a = c .before .before .before .before .before .before .args in
+    c .before .before .put-eight .ensures ∙ ap (λ (l : List ℕ). put (a .out .now) (a .at) l) (c .before .before .before .hex-word .ensures)
 
 pub put-hex-word-spec : {M : Type 1} → statement M
-put-hex-word-spec =
-    tie.close (tie.spec put-half-requires add-put-half put-half-requires-2 same-length returns)
+put-hex-word-spec = tie.close (tie.spec hex-word-requires put-eight-requires same-length returns)

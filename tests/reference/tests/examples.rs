@@ -338,3 +338,27 @@ fn lights() {
     assert_eq!(only(&log, 'H').len(), 1 + 3 * 32 + 1);
     assert_eq!(lab.record.age, 1 + 7 * 32 + 2);
 }
+
+/// The program course runs copies of the examples' files.
+#[test]
+fn course_has_the_files() {
+    let data = concat!(env!("CARGO_MANIFEST_DIR"), "/../../crates/course/data");
+    let mut count = 0;
+    for folder in std::fs::read_dir(data).expect("course's data") {
+        let folder = folder.unwrap();
+        let example = folder.file_name().into_string().unwrap();
+        // Files that are to be refused are no examples.
+        if example.starts_with("bad_") {
+            continue;
+        }
+        for copy in std::fs::read_dir(folder.path()).unwrap() {
+            let copy = copy.unwrap();
+            let name = copy.file_name().into_string().unwrap();
+            let text = std::fs::read(copy.path()).unwrap();
+            assert!(file(&example, &name) == Some(text), "{example}/{name}");
+            count += 1;
+        }
+    }
+    // nine programs, four with data, one with a disk, two with irq2 cycles
+    assert_eq!(count, 9 + 4 + 1 + 2);
+}

@@ -1,0 +1,149 @@
+-- A run of a sound machine is a piece of the plain machine's run. Assumes nothing.
+use Prim.Native.Nat.{ℕ, zero, suc, _+_, _-_, _^_, _≤_, _<_}
+use mathlib.Core.Path.{_≡_, refl, sym, _∙_, ap, subst}
+use mathlib.Core.Bool.{Bool, true, false, _||_, false≢true}
+use mathlib.Core.List.{List, _++_}
+use native.Mathlib.Omega.{arith}
+use lib.ListN.{length, take, length-append}
+use lib.Seq.{take-append-seam}
+use borrow.Author.Tests.{eq-eqb, eqb-true, eqb-false}
+use Rattle.files.specs.MemoryFile.{low48}
+use Rattle.files.specs.Irq2File.{rising}
+use Rattle.machine.specs.declared.Record.{Record}
+use Rattle.machine.specs.State.{Machine, freshMachine}
+use Rattle.machine.specs.Soundness.{Sound}
+use Rattle.machine.specs.Interrupts.{isIn}
+use Rattle.machine.specs.Cycle.{isStopped, isAtLimit}
+use Rattle.machine.proofs.SoundLaws.{sound-cycle, sound-fresh}
+use Rattle.machine.proofs.LineLaws.{lines-at-most}
+use Rattle.executor.specs.Lent.{Sized}
+use Rattle.saved.specs.Calls.{freshRecord}
+use Rattle.saved.proofs.SoundTest.{sound-test}
+use Rattle.claim.specs.Plain.{isOver, onward, after, Makes, Exact}
+use Rattle.claim.specs.Calls.{Done, Ran, runFrom, ran, runCall}
+use Rattle.claim.proofs.Runs.{after-add, log-add, Runs, exact-makes, runs}
+use Rattle.runner.specs.declared.RunReport.{RunReport}
+use Rattle.runner.specs.Answers.{ranReason, doneOf}
+use Rattle.runner.specs.Lab.{lab, simp, codeOf, machineOf, standingOf, areLengths, Standing}
+use Rattle.runner.proofs.RunLaws.{run-accepted}
+use Rattle.pieces.specs.Pieces.{machineAfter, linesOf, Piece}
+use Rattle.pieces.proofs.RunLaws.{run-within, run-goes-on, run-ends, run-says}
+
+-- ---- a sound machine stays one
+
+abbrev IsSound : Machine → Type 0
+IsSound m = Sound (m .core) (m .regs) (m .io)
+
+not-over : (a b : Bool) → (a || b) ≡ false → b ≡ false
+not-over true b e = absurd (false≢true (sym e))
+not-over false b e = e
+
+module _ (image irq2 : List ℕ) where
+  sound-next : (m : Machine) → IsSound m → isOver simp m ≡ false → IsSound (simp .cycle (codeOf image irq2) m)
+  sound-next m h more =
+      let limit = eqb-false (m .core .age) (2 ^ 40 - 1) (not-over (isStopped m) (isAtLimit m) more) in
+      let young : m .core .age < 2 ^ 40 - 1 = omega (arith, h .core .age, limit) in
+      sound-cycle (low48 image) (isIn (m .core .age) irq2) m (record { record-is = h }) young .record-is
+
+  sound-after : (m : Machine) → IsSound m → (n : ℕ) → Makes simp (codeOf image irq2) n m → IsSound (machineAfter image irq2 n m)
+  unfolding after onward
+  sound-after m h zero makes = h
+  sound-after m h (suc n) makes =
+      rw (makes n (omega arith)) (sound-next (machineAfter image irq2 n m) (sound-after m h n (λ i k. makes i (omega arith))) (makes n (omega arith)))
+
+-- ---- one run of it
+
+module _ (image irq2 memory disk frame log : List ℕ) (state : Record) (budget : ℕ)
+    (h : Sound (state .core) (state .regs) (state .io)) (size : length image ≡ 4096) (sizes : Sized memory disk frame) (long : 231 ≤ length log) (rises : rising irq2 ≡ true) where
+  abbrev start : Machine
+  start = machineOf state memory disk frame
+
+  abbrev lent : Standing
+  lent = standingOf image state memory disk frame
+
+  -- What the run makes: cycles of the plain machine and their lines, exactly until it has a reason to stop.
+  abbrev made : Ran Machine
+  made = runFrom simp (codeOf image irq2) budget (length log) start
+
+  so : Runs simp (codeOf image irq2) start budget (length log) made
+  so = runs simp (codeOf image irq2) budget (length log) start
+
+  -- It is accepted.
+  lengths : areLengths lent ≡ true
+  lengths =
+      rw (
+        eq-eqb (length image) 4096 size,
+        eq-eqb (length memory) 4096 (sizes .memory-size),
+        eq-eqb (length disk) 16384 (sizes .disk-size),
+        eq-eqb (length frame) 65536 (sizes .frame-size),
+      )
+
+  accepts : ran lab lent log made ≡ runCall lab budget log irq2 lent
+  accepts = run-accepted lent irq2 log budget lengths rises (sound-test state h) (ran lab lent log made) refl
+
+  -- The lines of its first cycle fit the log.
+  fits : length (simp .lines (codeOf image irq2) start) ≤ length log
+  fits = let most = lines-at-most (low48 image) (isIn (state .core .age) irq2) start (h .thirteen) (h .core .age) in omega arith
+
+  -- What it reported and left.
+  module _ (r : RunReport) (memory' disk' frame' log' : List ℕ) (e : doneOf r image memory' disk' frame' log' ≡ runCall lab budget log irq2 lent) where
+    is : doneOf r image memory' disk' frame' log' ≡ ran lab lent log made
+    is = e ∙ sym accepts
+
+    cycles : r .cycles ≡ made .cycles
+    cycles = ap (λ (d : Done lab). d .cycles) is
+
+    reason : ranReason (r .answer) ≡ made .reason
+    reason = ap (λ (d : Done lab). d .reason) is
+
+    bytes : r .bytes ≡ length (made .lines)
+    bytes = ap (λ (d : Done lab). d .bytes) is
+
+    exact : Exact simp (codeOf image irq2) start budget (length log) (r .cycles) (ranReason (r .answer))
+    exact = rw (cycles, reason) (so .exact)
+
+    machine : machineOf (r .state) memory' disk' frame' ≡ machineAfter image irq2 (r .cycles) start
+    machine = ap (λ (d : Done lab). d .lent .state) is ∙ rw cycles (so .state)
+
+    lines : take (r .bytes) log' ≡ linesOf image irq2 (r .cycles) start
+    lines = rw (ap (λ (d : Done lab). d .log) is, bytes, take-append-seam, cycles) (so .lines)
+
+    room : r .bytes ≤ length log'
+    room = rw (ap (λ (d : Done lab). d .log) is, bytes, length-append) (omega arith)
+
+    pub piece : Piece image irq2 budget start r (machineOf (r .state) memory' disk' frame') log'
+    piece =
+        record {
+          machine = machine;
+          lines = lines;
+          room = room;
+          sound = subst IsSound (sym machine) (sound-after image irq2 start h (r .cycles) (exact-makes simp (codeOf image irq2) start budget (length log) _ _ exact));
+          within = run-within simp (codeOf image irq2) start budget (length log) _ _ exact;
+          goes-on = λ full. run-goes-on simp (codeOf image irq2) start budget (length log) (r .cycles) (rw (eqb-true (ranReason (r .answer)) 2 full) at exact) fits;
+          ends = λ other.
+              let last = eqb-false (ranReason (r .answer)) 2 other in (
+                machine ∙ run-ends simp (codeOf image irq2) start budget (length log) _ _ exact last,
+                lines ∙ run-says simp (codeOf image irq2) start budget (length log) _ _ exact last,
+              );
+        }
+
+-- ---- one run after the other
+
+module _ {image irq2 : List ℕ} {budget : ℕ} {m n : Machine} {r : RunReport} {log : List ℕ} (p : Piece image irq2 budget m r n log) where
+  parts : r .cycles + (budget - r .cycles) ≡ budget
+  parts = omega (arith, p .within)
+
+  -- What the rest of the budget makes of the machine after a piece, ..
+  pub rest-after : machineAfter image irq2 (budget - r .cycles) n ≡ machineAfter image irq2 budget m
+  rest-after = rw (p .machine, ← after-add simp (codeOf image irq2) (r .cycles) (budget - r .cycles) m, parts)
+
+  -- .. and what it logs then: a piece and the rest are the whole log.
+  pub rest-lines : take (r .bytes) log ++ linesOf image irq2 (budget - r .cycles) n ≡ linesOf image irq2 budget m
+  rest-lines = rw (p .lines, p .machine, ← log-add simp (codeOf image irq2) (r .cycles) (budget - r .cycles) m, parts)
+
+-- Before the first.
+pub fresh-sound : (state : Record) → state ≡ freshRecord → Sound (state .core) (state .regs) (state .io)
+fresh-sound state e = rw e sound-fresh
+
+pub fresh-machine : (state : Record) (memory disk frame : List ℕ) → state ≡ freshRecord → machineOf state memory disk frame ≡ freshMachine memory disk frame
+fresh-machine state memory disk frame e = rw e

@@ -1,0 +1,3 @@
+-- What a run whose log is printed in pieces makes of an image, and what the answers tell.
+pub mod Pieces
+pub mod Answers

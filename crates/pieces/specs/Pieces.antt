@@ -1,0 +1,41 @@
+-- A run whose log is printed in pieces.
+use Prim.Native.Nat.{ℕ, _≤_, _<_}
+use mathlib.Core.Path.{_≡_}
+use mathlib.Core.Bool.{Bool, true, false}
+use mathlib.Core.List.{List}
+use lib.Dec.{eqb}
+use lib.ListN.{take, length}
+use Rattle.machine.specs.State.{Machine}
+use Rattle.machine.specs.Soundness.{Sound}
+use Rattle.claim.specs.Plain.{after, logAfter}
+use Rattle.runner.specs.declared.RunAnswer.{RunAnswer}
+use Rattle.runner.specs.declared.RunReport.{RunReport}
+use Rattle.runner.specs.Answers.{ranReason}
+use Rattle.runner.specs.Lab.{simp, codeOf}
+
+-- "budget 100,000 cycles"
+abbrev pub wholeBudget : ℕ
+wholeBudget = 100000
+
+-- The plain machine with an irq2 list after n cycles from m, and the lines of those cycles.
+abbrev pub machineAfter : List ℕ → List ℕ → ℕ → Machine → Machine
+machineAfter image irq2 n m = after simp (codeOf image irq2) n m
+
+abbrev pub linesOf : List ℕ → List ℕ → ℕ → Machine → List ℕ
+linesOf image irq2 n m = logAfter simp (codeOf image irq2) n m
+
+-- The run ended because "the cycle's lines don't fit the rest of the log (reason 2)".
+abbrev pub isLogFull : RunAnswer → Bool
+isLogFull a = eqb (ranReason a) 2
+
+-- A run from m with so much budget, which reported r and left the machine n and the log `log`, is a piece of the plain machine's run.
+pub record Piece (image irq2 : List ℕ) (budget : ℕ) (m : Machine) (r : RunReport) (n : Machine) (log : List ℕ) : Type 0 where
+  pub machine : n ≡ machineAfter image irq2 (r .cycles) m
+  pub lines : take (r .bytes) log ≡ linesOf image irq2 (r .cycles) m
+  pub room : r .bytes ≤ length log
+  pub sound : Sound (n .core) (n .regs) (n .io)
+  pub within : r .cycles ≤ budget
+  -- Where the log is full, a cycle was made; ..
+  pub goes-on : isLogFull (r .answer) ≡ true → 0 < r .cycles
+  -- .. else all that the budget allows and the plain machine makes, and the log has all their lines.
+  pub ends : isLogFull (r .answer) ≡ false → (n ≡ machineAfter image irq2 budget m) × (take (r .bytes) log ≡ linesOf image irq2 budget m)

@@ -1,0 +1,72 @@
+// The run, whose log is printed in pieces.
+use libc::STDOUT_FILENO;
+use machine::Record;
+use runner::RunAnswer;
+use runner::RunReport;
+use runner::run;
+use saved::fresh_record;
+ghost use mathlib.Core.Path.{_≡_};
+ghost use mathlib.Core.Bool.{true};
+ghost use Rattle.files.specs.Irq2File.{rising};
+ghost use Rattle.machine.specs.State.{freshMachine};
+ghost use Rattle.machine.specs.Soundness.{Sound};
+ghost use Rattle.runner.specs.Lab.{machineOf};
+ghost use Rattle.pieces.specs.Pieces.{wholeBudget, machineAfter, isLogFull, Piece};
+
+// The cycles that a program may make.
+const BUDGET: u64 = 100_000;
+
+// Runs an image with an irq2 list from the fresh record until the budget is spent or the machine has stopped, and prints the log. Returns the record
+// then.
+pub fn run_budget(
+    image: &[u64; 4096],
+    memory: &mut [u32; 4096],
+    disk: &mut [u32; 16384],
+    frame: &mut [u8; 65536],
+    irq2: &[u64],
+) -> Record
+    requires { ⌜ rising (now irq2) ≡ true ⌝ }
+    ensures { λ r. ⌜ machineOf r (now (memory .exit)) (now (disk .exit)) (now (frame .exit)) ≡ machineAfter (now (image .entry)) (now (irq2 .entry)) wholeBudget (freshMachine (now (memory .entry)) (now (disk .entry)) (now (frame .entry))) ⌝ }
+{
+    let mut log = [0u8; 65536];
+    let mut state = fresh_record();
+    let mut left = BUDGET;
+    loop {
+        let piece = run_piece(state, image, memory, disk, frame, irq2, left, &mut log);
+        let bytes = piece.bytes;
+        let answer = piece.answer;
+        io::write_all(STDOUT_FILENO, &log[..bytes]);
+        state = piece.state;
+        if !is_log_full(answer) {
+            return state;
+        }
+        left -= piece.cycles;
+    }
+}
+
+// Runs on with so much budget until the log is full or the run is over.
+fn run_piece(
+    state: Record,
+    image: &[u64; 4096],
+    memory: &mut [u32; 4096],
+    disk: &mut [u32; 16384],
+    frame: &mut [u8; 65536],
+    irq2: &[u64],
+    budget: u64,
+    log: &mut [u8; 65536],
+) -> RunReport
+    requires { ⌜ Sound (state .core) (state .regs) (state .io) × (rising (now irq2) ≡ true) ⌝ }
+    ensures { λ r. ⌜ Piece (now (image .entry)) (now (irq2 .entry)) budget (machineOf state (now (memory .entry)) (now (disk .entry)) (now (frame .entry))) r (machineOf (r .state) (now (memory .exit)) (now (disk .exit)) (now (frame .exit))) (now (log .exit)) ⌝ }
+{
+    run(state, image, memory, disk, frame, irq2, budget, log)
+}
+
+// Whether a run ended because its log was full.
+fn is_log_full(answer: RunAnswer) -> bool
+    ensures { λ r. ⌜ r ≡ isLogFull answer ⌝ }
+{
+    match answer {
+        RunAnswer::LogFull => true,
+        _ => false,
+    }
+}

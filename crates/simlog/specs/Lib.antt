@@ -1,2 +1,0 @@
--- What the program makes of an image.
-pub mod Pieces

@@ -1,0 +1,6 @@
+-- Laws of assembly text.
+pub mod AllLaws
+pub mod LetterLaws
+pub mod NameLaws
+pub mod SameLaws
+pub mod NumberLaws

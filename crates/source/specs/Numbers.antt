@@ -1,0 +1,47 @@
+-- "Numbers: decimal of 1 to 10 digits, `-` allowed, or 0x and 1 to 8 digits of either case. A longer number or label is wrong form."
+use Prim.Native.Nat.{ℕ}
+use mathlib.Core.Bool.{Bool, true, false, cond, _&&_}
+use mathlib.Core.List.{List, [], _∷_}
+use lib.Dec.{eqb, leb}
+use lib.ListN.{length, take, drop}
+use Rattle.text.specs.Bytes.{bytes}
+use Rattle.text.specs.Numerals.{numeral}
+use Rattle.text.specs.declared.Numeral.{Numeral}
+use Rattle.text.specs.declared.Numeral.the-variants.{Value, NoNumeral}
+use Rattle.source.specs.declared.Number.{Number}
+use Rattle.source.specs.declared.Number.the-variants.{Decimal, Minus, Hexadecimal, NoNumber}
+
+-- Two byte lists are the same.
+unfoldable pub same : List ℕ → List ℕ → Bool
+same [] [] = true
+same [] (c ∷ t) = false
+same (b ∷ s) [] = false
+same (b ∷ s) (c ∷ t) = eqb b c && same s t
+
+-- Digits of a base, 1 to `most` of them.
+abbrev pub digitsUpTo : (base most : ℕ) → List ℕ → Numeral
+digitsUpTo base most s = cond (leb 1 (length s) && leb (length s) most) (numeral base s) NoNumeral
+
+-- A numeral as a number that is written so.
+abbrev pub written : (ℕ → Number) → Numeral → Number
+written as-number (Value v) = as-number v
+written as-number NoNumeral = NoNumber
+
+abbrev pub decimalDigits : ℕ
+decimalDigits = 10
+
+abbrev pub hexadecimalDigits : ℕ
+hexadecimalDigits = 8
+
+-- The number that a token is, if it is one.
+unfoldable pub number : List ℕ → Number
+number t =
+    cond (same (take 1 t) (bytes "-")) (written Minus (digitsUpTo 10 decimalDigits (drop 1 t)))
+    (cond (same (take 2 t) (bytes "0x")) (written Hexadecimal (digitsUpTo 16 hexadecimalDigits (drop 2 t)))
+    (written Decimal (digitsUpTo 10 decimalDigits t)))
+
+abbrev pub isNumber : Number → Bool
+isNumber (Decimal v) = true
+isNumber (Minus v) = true
+isNumber (Hexadecimal v) = true
+isNumber NoNumber = false

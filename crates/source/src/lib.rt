@@ -1,0 +1,17 @@
+// Assembly text without an instruction set: bytes, tokens with their places, numbers, names and the shapes of lines. What they are stands in specs/.
+
+pub mod bytes;
+pub mod names;
+pub mod numbers;
+
+// What a token is as a number: how it is written, and its digits' value.
+pub enum Number {
+    // Decimal digits.
+    Decimal(u64),
+    // `-` and decimal digits.
+    Minus(u64),
+    // 0x and hexadecimal digits.
+    Hexadecimal(u64),
+    // The token is no number.
+    NoNumber,
+}

@@ -4,3 +4,4 @@ pub mod LetterLaws
 pub mod NameLaws
 pub mod SameLaws
 pub mod NumberLaws
+pub mod TokenLaws

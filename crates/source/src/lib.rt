@@ -3,6 +3,7 @@
 pub mod bytes;
 pub mod names;
 pub mod numbers;
+pub mod tokens;
 
 // What a token is as a number: how it is written, and its digits' value.
 pub enum Number {
@@ -14,4 +15,10 @@ pub enum Number {
     Hexadecimal(u64),
     // The token is no number.
     NoNumber,
+}
+
+// Where a token stands in a line: its first byte, and the byte after its last.
+pub struct Span {
+    pub start: usize,
+    pub end: usize,
 }

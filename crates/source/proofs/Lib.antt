@@ -5,3 +5,4 @@ pub mod NameLaws
 pub mod SameLaws
 pub mod NumberLaws
 pub mod TokenLaws
+pub mod ShapeLaws

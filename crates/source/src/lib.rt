@@ -3,6 +3,7 @@
 pub mod bytes;
 pub mod names;
 pub mod numbers;
+pub mod shapes;
 pub mod tokens;
 
 // What a token is as a number: how it is written, and its digits' value.

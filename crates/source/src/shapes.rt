@@ -1,0 +1,99 @@
+// The shape of a line.
+use crate::Number;
+use crate::names::is_definition;
+use crate::names::is_name;
+use crate::names::is_register;
+use crate::numbers::are_same;
+use crate::numbers::read_number;
+use crate::tokens::next_token;
+ghost use mathlib.Core.Path.{_≡_};
+ghost use mathlib.Core.Bool.{_||_};
+ghost use Rattle.text.specs.Numerals.{DigitValues};
+ghost use Rattle.source.specs.Tokens.{tokens, texts};
+ghost use Rattle.source.specs.Numbers.{number, isNumber};
+ghost use Rattle.source.specs.Names.{isName as isNameOf};
+ghost use Rattle.source.specs.Shapes.{fits, matches};
+
+// Whether a line has a shape: a sign for each of its tokens.
+pub fn has_shape(line: &[u8], directive: &[u8], shape: &[u8], values: &[u8; 256]) -> bool
+    requires { ⌜ DigitValues (now values) ⌝ }
+    ensures { λ r. ⌜ r ≡ matches (now (directive .entry)) (now (shape .entry)) (texts (tokens (now (line .entry)))) ⌝ }
+{
+    let mut i = 0;
+    let mut p = 0;
+    while i < shape.len() {
+        let s = next_token(line, p);
+        let start = s.start;
+        let end = s.end;
+        if end <= start {
+            return false;
+        }
+        if !fits_sign(directive, shape[i], &line[start..end], values) {
+            return false;
+        }
+        p = end;
+        i += 1;
+    }
+    let s = next_token(line, p);
+    s.end <= s.start
+}
+
+// Whether a token fits a sign.
+fn fits_sign(directive: &[u8], sign: u8, t: &[u8], values: &[u8; 256]) -> bool
+    requires { ⌜ DigitValues (now values) ⌝ }
+    ensures { λ r. ⌜ r ≡ fits (now (directive .entry)) sign (now (t .entry)) ⌝ }
+{
+    if sign == b':' {
+        return is_definition(t);
+    }
+    if sign == b'o' {
+        return is_name(t);
+    }
+    if sign == b'$' {
+        return is_register(t);
+    }
+    if sign == b',' {
+        return are_same(t, b",");
+    }
+    if sign == b'0' {
+        return is_number(t, values);
+    }
+    if sign == b'i' {
+        return is_immediate(t, values);
+    }
+    if sign == b'.' {
+        return are_same(t, directive);
+    }
+    false
+}
+
+// Whether a token is a number.
+pub fn is_number(t: &[u8], values: &[u8; 256]) -> bool
+    requires { ⌜ DigitValues (now values) ⌝ }
+    ensures { λ r. ⌜ r ≡ isNumber (number (now (t .entry))) ⌝ }
+{
+    is_some(read_number(t, values))
+}
+
+// Whether a token is read as a number.
+fn is_some(n: Number) -> bool
+    ensures { λ r. ⌜ r ≡ isNumber n ⌝ }
+{
+    match n {
+        Number::Decimal(_) => true,
+        Number::Minus(_) => true,
+        Number::Hexadecimal(_) => true,
+        Number::NoNumber => false,
+    }
+}
+
+// Whether a token is an immediate: a number or a label.
+fn is_immediate(t: &[u8], values: &[u8; 256]) -> bool
+    requires { ⌜ DigitValues (now values) ⌝ }
+    ensures { λ r. ⌜ r ≡ (isNumber (number (now (t .entry))) || isNameOf (now (t .entry))) ⌝ }
+{
+    if is_number(t, values) {
+        return true;
+    }
+    is_name(t)
+}

@@ -15,9 +15,11 @@ use Rattle.source.specs.Tokens.{tokensFrom}
 use Rattle.source.specs.Numbers.{same, number}
 use Rattle.source.specs.Names.{isName, isRegister, isDefinition}
 use Rattle.source.specs.Shapes.{fits, matches, firstShape}
-use Rattle.assembler.specs.Line.{shapes, formOf}
-use Rattle.assembler.specs.Text.{codeCount, labels, isAmong, placeOf, valueOf}
-use Rattle.assembler.specs.Questions.{isKnown, areInRange, isWordInRange, lineQuestions, assembleTold}
+use Rattle.source.specs.Lookup.{isAmong, placeOf}
+use Rattle.lines.specs.Line.{shapes, formOf}
+use Rattle.lines.specs.Asked.{isKnown, areInRange, isWordInRange}
+use Rattle.assembler.specs.Text.{codeCount, labels, valueOf}
+use Rattle.assembler.specs.Questions.{lineQuestions, assembleTold}
 use Rattle.assembler.specs.Memories.{immediate, encoded, codeOf, assembledImage, stored, assembledData}
 
 unfoldable told : String → Told

@@ -1,6 +1,7 @@
--- The assembler: the form of a line, its questions, and what a good text gives.
-pub mod Line
+-- The assembler: the lines of a text, their questions, and what a good text gives.
 pub mod Text
 pub mod Questions
 pub mod Memories
+pub mod Answers
+pub mod Promises
 pub mod Examples

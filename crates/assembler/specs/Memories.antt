@@ -1,5 +1,5 @@
 -- What a good text gives: the image and the data memory.
-use Prim.Native.Nat.{ℕ, _-_, _%_}
+use Prim.Native.Nat.{ℕ, _-_, _%_, _^_}
 use mathlib.Core.Bool.{cond}
 use mathlib.Core.List.{List, [], _∷_, _++_}
 use lib.ListN.{length, set, replicate}
@@ -7,13 +7,16 @@ use Rattle.text.specs.Lines.{lines}
 use Rattle.isa.specs.Operations.{operationNames}
 use Rattle.isa.specs.Registers.{registerNames}
 use Rattle.isa.specs.Word.{wordOf}
+use Rattle.files.specs.Sizes.{imageWords, dataWords}
 use Rattle.source.specs.Numbers.{number, isNumber}
-use Rattle.assembler.specs.Line.{formOf, hasCode, hasWord, part, operation, operand, modulo}
-use Rattle.assembler.specs.Text.{placeOf, valueOf}
+use Rattle.source.specs.Lookup.{placeOf}
+use Rattle.lines.specs.Line.{formOf, hasCode, hasWord, part, operation, operand}
+use Rattle.lines.specs.Ranges.{modulo}
+use Rattle.assembler.specs.Text.{valueOf}
 
 -- "Immediates .., stored modulo 4096": a number, or a label's value.
 unfoldable pub immediate : (all : List (List ℕ)) → List ℕ → ℕ
-immediate all t = cond (isNumber (number t)) (modulo 12 (number t)) (valueOf 0 all t % 4096)
+immediate all t = cond (isNumber (number t)) (modulo 12 (number t)) (valueOf 0 all t % 2 ^ 12)
 
 -- The word of an instruction.
 unfoldable pub encoded : (all : List (List ℕ)) → List ℕ → ℕ
@@ -39,7 +42,7 @@ codeOf all (l ∷ ls) = cond (hasCode (formOf l)) (encoded all l ∷ codeOf all 
 unfoldable pub assembledImage : List ℕ → List ℕ
 assembledImage source =
     let code = codeOf (lines source) (lines source) in
-    code ++ replicate (4096 - length code) 0
+    code ++ replicate (imageWords - length code) 0
 
 -- The data memory: "the later .word of one address wins; the rest is zero."
 unfoldable pub stored : List ℕ → List (List ℕ) → List ℕ
@@ -48,4 +51,4 @@ stored memory (l ∷ ls) =
     stored (cond (hasWord (formOf l)) (set memory (modulo 12 (number (part 1 l))) (modulo 32 (number (part 2 l)))) memory) ls
 
 unfoldable pub assembledData : List ℕ → List ℕ
-assembledData source = stored (replicate 4096 0) (lines source)
+assembledData source = stored (replicate dataWords 0) (lines source)

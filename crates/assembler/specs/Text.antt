@@ -1,9 +1,9 @@
 -- The lines of a text: its instructions and its labels.
 use Prim.Native.Nat.{ℕ, suc, _+_}
-use mathlib.Core.Bool.{Bool, false, cond, _&&_, _||_}
+use mathlib.Core.Bool.{cond, _&&_}
 use mathlib.Core.List.{List, [], _∷_}
 use Rattle.source.specs.Numbers.{same}
-use Rattle.assembler.specs.Line.{formOf, hasLabel, hasCode, labelOf}
+use Rattle.lines.specs.Line.{formOf, hasLabel, hasCode, labelOf}
 
 -- How many instructions lines have.
 unfoldable pub codeCount : List (List ℕ) → ℕ
@@ -14,16 +14,6 @@ codeCount (l ∷ ls) = cond (hasCode (formOf l)) (suc (codeCount ls)) (codeCount
 unfoldable pub labels : List (List ℕ) → List (List ℕ)
 labels [] = []
 labels (l ∷ ls) = cond (hasLabel (formOf l)) (labelOf l ∷ labels ls) (labels ls)
-
--- A name is among others. "Names are case-sensitive".
-unfoldable pub isAmong : List (List ℕ) → List ℕ → Bool
-isAmong [] t = false
-isAmong (n ∷ ns) t = same t n || isAmong ns t
-
--- The place of a name among others; as many as there are where it is none of them.
-unfoldable pub placeOf : List (List ℕ) → List ℕ → ℕ
-placeOf [] t = 0
-placeOf (n ∷ ns) t = let more = suc (placeOf ns t) in cond (same t n) 0 more
 
 -- "its value is the count of instructions before it": of the first line that defines it, `before` instructions standing before these lines.
 unfoldable pub valueOf : (before : ℕ) → List (List ℕ) → List ℕ → ℕ

@@ -4,5 +4,6 @@ pub mod Tokens
 pub mod Spans
 pub mod Numbers
 pub mod Names
+pub mod Lookup
 pub mod Shapes
 pub mod Examples

@@ -1,18 +1,15 @@
 -- One line: its form and its parts.
-use Prim.Native.Nat.{ℕ, _+_, _-_, _%_, _^_}
+use Prim.Native.Nat.{ℕ, _+_}
 use mathlib.Core.Bool.{Bool, true, false, cond}
 use mathlib.Core.List.{List, [], _∷_}
-use lib.Dec.{leb}
 use lib.ListN.{getD}
 use Rattle.text.specs.Bytes.{bytes}
-use Rattle.source.specs.declared.Number.{Number}
-use Rattle.source.specs.declared.Number.the-variants.{Decimal, Minus, Hexadecimal, NoNumber}
 use Rattle.source.specs.Bytes.{areRightBytes}
-use Rattle.source.specs.Tokens.{tokens, texts}
+use Rattle.source.specs.Tokens.{texts}
 use Rattle.source.specs.Names.{defined}
-use Rattle.source.specs.Shapes.{firstShape}
-use Rattle.assembler.specs.declared.Form.{Form}
-use Rattle.assembler.specs.declared.Form.the-variants.{Nothing, Label, Code, Labelled, Word, Wrong}
+use Rattle.source.specs.Shapes.{formOf as shapeOf}
+use Rattle.lines.specs.declared.Form.{Form}
+use Rattle.lines.specs.declared.Form.the-variants.{Nothing, Label, Code, Labelled, Word, Wrong}
 
 -- "A line is an optional `label:`, an optional instruction, an optional `#` comment; or `.word address data` and a comment. Instruction: `op rd, rs, rt, rm,
 -- imm1, imm2`."
@@ -27,7 +24,7 @@ formAt n = getD (Nothing ∷ Label ∷ Code ∷ Labelled ∷ Word ∷ []) n Wron
 
 -- The form of a line that passes question 2; else it has none.
 unfoldable pub formOf : List ℕ → Form
-formOf line = cond (areRightBytes line) (formAt (firstShape directive shapes (texts (tokens line)))) Wrong
+formOf line = cond (areRightBytes line) (formAt (shapeOf directive shapes line .shape)) Wrong
 
 abbrev pub isRight : Form → Bool
 isRight Nothing = true
@@ -65,7 +62,7 @@ hasWord Wrong = false
 
 -- Token k of a line.
 abbrev pub part : ℕ → List ℕ → List ℕ
-part k line = getD (texts (tokens line)) k []
+part k line = getD (texts (shapeOf directive shapes line .parts)) k []
 
 -- The label that a line defines.
 abbrev pub labelOf : List ℕ → List ℕ
@@ -80,19 +77,3 @@ operation f line = part (opAt f) line
 
 abbrev pub operand : ℕ → Form → List ℕ → List ℕ
 operand k f line = part (opAt f + 1 + k + k) line
-
--- ---- ranges of numbers
-
--- A number from -below to most.
-abbrev pub isWithin : (below most : ℕ) → Number → Bool
-isWithin below most (Decimal v) = leb v most
-isWithin below most (Minus v) = leb v below
-isWithin below most (Hexadecimal v) = leb v most
-isWithin below most NoNumber = true
-
--- "stored modulo 4096": a number in so many bits.
-abbrev pub modulo : (bits : ℕ) → Number → ℕ
-modulo bits (Decimal v) = v % 2 ^ bits
-modulo bits (Minus v) = (2 ^ bits - v % 2 ^ bits) % 2 ^ bits
-modulo bits (Hexadecimal v) = v % 2 ^ bits
-modulo bits NoNumber = 0

@@ -1,0 +1,4 @@
+-- One line of assembly text: its form, and the questions that it answers by itself.
+pub mod Line
+pub mod Ranges
+pub mod Asked

@@ -1,0 +1,38 @@
+-- Words listed, computed, and each refusal.
+use mathlib.Core.Path.{_≡_, refl}
+use mathlib.Core.List.{List, [], _∷_, map}
+use lib.ListN.{length, replicate}
+use Rattle.text.specs.Bytes.{bytes}
+use Rattle.text.specs.Questions.{accepted, refused}
+use Rattle.text.specs.Numerals.{decimal, digits, digitCount, digitCountUpTo}
+use Rattle.text.specs.Lines.{unlines}
+use Rattle.isa.specs.Operations.{operationName}
+use Rattle.isa.specs.Registers.{registerName}
+use Rattle.lister.specs.Listing.{signedDecimal, separated, listedLine, listing}
+use Rattle.lister.specs.Calls.{firstUnknown, listTold}
+
+-- "sub with R8, R1, R2, R2 and 2, 3 encodes as 018122002003"; bits above 47 are not read.
+sub-line : map listedLine (0x018122002003 ∷ 0xFFFF018122002003 ∷ []) ≡ bytes "sub $t1, $imm1, $imm2, $imm2, 2, 3" ∷ bytes "sub $t1, $imm1, $imm2, $imm2, 2, 3" ∷ []
+unfolding listedLine separated signedDecimal decimal digits digitCount digitCountUpTo operationName registerName
+sub-line = refl
+
+-- L1: 0x800 to 0xFFF are negative.
+signed-immediates : map signedDecimal (0 ∷ 0x7FF ∷ 0x800 ∷ 0xFFF ∷ []) ≡ bytes "0" ∷ bytes "2047" ∷ bytes "-2048" ∷ bytes "-1" ∷ []
+unfolding signedDecimal decimal digits digitCount digitCountUpTo
+signed-immediates = refl
+
+-- An LF also after the last line.
+two-lines : listing (0x150000000000 ∷ 0 ∷ []) ≡ bytes "halt $zero, $zero, $zero, $zero, 0, 0\nadd $zero, $zero, $zero, $zero, 0, 0\n"
+unfolding listing unlines listedLine separated signedDecimal decimal digits digitCount digitCountUpTo operationName registerName
+two-lines = refl
+
+-- L2: an empty part gives an empty text, for which no room is needed.
+empty-part : listTold [] 0 ≡ accepted 0
+unfolding listTold firstUnknown listing unlines
+empty-part = refl
+
+-- L3: 1, then 16 at the first bad word, then 15; a room of exactly the text's length is enough.
+refusals : listTold (replicate 4097 0) 0 ∷ listTold (0 ∷ 0x160000000000 ∷ 0xFF0000000000 ∷ []) 0 ∷ listTold (0 ∷ []) 36 ∷ listTold (0 ∷ []) 37 ∷ []
+    ≡ refused 1 0 ∷ refused 16 1 ∷ refused 15 0 ∷ accepted 37 ∷ []
+unfolding listTold firstUnknown listing unlines listedLine separated signedDecimal decimal digits digitCount digitCountUpTo operationName registerName
+refusals = refl

@@ -1,0 +1,4 @@
+-- The lister: the text of words, its questions, and what it promises.
+pub mod Listing
+pub mod Calls
+pub mod Examples

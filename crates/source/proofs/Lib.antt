@@ -5,4 +5,5 @@ pub mod NameLaws
 pub mod SameLaws
 pub mod NumberLaws
 pub mod TokenLaws
+pub mod SplitLaws
 pub mod ShapeLaws

@@ -5,37 +5,42 @@ use crate::names::is_name;
 use crate::names::is_register;
 use crate::numbers::are_same;
 use crate::numbers::read_number;
-use crate::tokens::next_token;
 ghost use mathlib.Core.Path.{_≡_};
 ghost use mathlib.Core.Bool.{_||_};
+ghost use Prim.Native.Nat.{_+_, _*_, _≤_};
+ghost use lib.ListN.{length};
 ghost use Rattle.text.specs.Numerals.{DigitValues};
 ghost use Rattle.source.specs.Tokens.{tokens, texts};
+ghost use Rattle.source.specs.Spans.{Split};
 ghost use Rattle.source.specs.Numbers.{number, isNumber};
 ghost use Rattle.source.specs.Names.{isName as isNameOf};
 ghost use Rattle.source.specs.Shapes.{fits, matches};
 
-// Whether a line has a shape: a sign for each of its tokens.
-pub fn has_shape(line: &[u8], directive: &[u8], shape: &[u8], values: &[u8; 256]) -> bool
-    requires { ⌜ DigitValues (now values) ⌝ }
+// Whether a line, split into n tokens, has a shape: a sign for each of them.
+pub fn has_shape(
+    line: &[u8],
+    places: &[usize],
+    n: usize,
+    directive: &[u8],
+    shape: &[u8],
+    values: &[u8; 256],
+) -> bool
+    requires { ⌜ (Split (now line) (now places) n) × (2 * length (now shape) + 2 ≤ length (now places)) × DigitValues (now values) ⌝ }
     ensures { λ r. ⌜ r ≡ matches (now (directive .entry)) (now (shape .entry)) (texts (tokens (now (line .entry)))) ⌝ }
 {
+    if shape.len() != n {
+        return false;
+    }
     let mut i = 0;
-    let mut p = 0;
     while i < shape.len() {
-        let s = next_token(line, p);
-        let start = s.start;
-        let end = s.end;
-        if end <= start {
-            return false;
-        }
+        let start = places[2 * i];
+        let end = places[2 * i + 1];
         if !fits_sign(directive, shape[i], &line[start..end], values) {
             return false;
         }
-        p = end;
         i += 1;
     }
-    let s = next_token(line, p);
-    s.end <= s.start
+    true
 }
 
 // Whether a token fits a sign.

@@ -5,7 +5,29 @@ ghost use mathlib.Core.Path.{_≡_};
 ghost use Prim.Native.Nat.{_+_, _≤_, _<_};
 ghost use lib.ListN.{length, getD, drop};
 ghost use Rattle.source.specs.Tokens.{closes, follows, isJoined};
-ghost use Rattle.source.specs.Spans.{Begins, StartsAt, EndsAt, TokenAt};
+ghost use Rattle.source.specs.Spans.{Begins, StartsAt, EndsAt, TokenAt, Split};
+
+// Splits a line into its tokens: lays the start and the end of each into `places`, as many as it has room for, and returns their number.
+pub fn split(line: &[u8], places: &mut [usize]) -> usize
+    ensures { λ r. ⌜ (Split (now (line .entry)) (now (places .exit)) r) × (length (now (places .exit)) ≡ length (now (places .entry))) ⌝ }
+{
+    let room = places.len() / 2;
+    let mut n = 0;
+    let mut p = 0;
+    while n < room {
+        let s = next_token(line, p);
+        let start = s.start;
+        let end = s.end;
+        if end <= start {
+            return n;
+        }
+        places[2 * n] = start;
+        places[2 * n + 1] = end;
+        p = end;
+        n += 1;
+    }
+    n
+}
 
 // The first token from p on; where there is none, its start and its end are the same.
 pub fn next_token(line: &[u8], p: usize) -> Span

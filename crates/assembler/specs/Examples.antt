@@ -19,11 +19,11 @@ use Rattle.source.specs.Lookup.{isAmong, placeOf}
 use Rattle.lines.specs.Line.{shapes, formOf}
 use Rattle.lines.specs.Asked.{isKnown, areInRange, isWordInRange}
 use Rattle.assembler.specs.Text.{codeCount, labels, valueOf}
-use Rattle.assembler.specs.Questions.{lineQuestions, assembleTold}
+use Rattle.assembler.specs.Questions.{lineQuestions, textTold, assembleTold}
 use Rattle.assembler.specs.Memories.{immediate, encoded, codeOf, assembledImage, stored, assembledData}
 
 unfoldable told : String → Told
-unfolding assembleTold lineQuestions isKnown areInRange isWordInRange firstBad lines formOf shapes firstShape matches fits isName isRegister isDefinition number same tokensFrom areRightBytes all allDigits value codeCount labels isAmong operationNames registerNames
+unfolding assembleTold textTold lineQuestions isKnown areInRange isWordInRange firstBad lines formOf shapes firstShape matches fits isName isRegister isDefinition number same tokensFrom areRightBytes all allDigits value codeCount labels isAmong operationNames registerNames
 told source = assembleTold (bytes source) 4096 4096
 
 unfoldable image : String → List ℕ

@@ -4,4 +4,5 @@ pub mod Questions
 pub mod Memories
 pub mod Answers
 pub mod Promises
+pub mod Passes
 pub mod Examples

@@ -43,12 +43,16 @@ lineQuestions all before line =
     ∷ (8, when (hasCode f || hasLabel f) (leb (codeCount before) lastAddress) && when (hasLabel f) (ltb (length (labels before)) mostLabels))
     ∷ []
 
+-- "first bad line": what the lines of a text tell.
+unfoldable pub textTold : (source : List ℕ) → Told
+textTold source =
+    let all = lines source in
+    firstBad (λ i line. lineQuestions all (take i all) line) 0 all (accepted 0)
+
 -- "are the lent lengths those above (source up to 262,144 bytes ..)? 1", then the lines'.
 abbrev pub mostSource : ℕ
 mostSource = 262144
 
 unfoldable pub assembleTold : (source : List ℕ) (image data-words : ℕ) → Told
 assembleTold source image data-words =
-    let all = lines source in
-    firstNo ((1, leb (length source) mostSource && isImageLength image && isDataLength data-words) ∷ []) 0
-    (firstBad (λ i line. lineQuestions all (take i all) line) 0 all (accepted 0))
+    firstNo ((1, leb (length source) mostSource && isImageLength image && isDataLength data-words) ∷ []) 0 (textTold source)

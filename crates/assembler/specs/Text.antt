@@ -21,3 +21,10 @@ valueOf before [] t = 0
 valueOf before (l ∷ ls) t =
     let more = valueOf (cond (hasCode (formOf l)) (before + 1) before) ls t in
     cond (hasLabel (formOf l) && same t (labelOf l)) before more
+
+-- The values of the labels, in their order (for the code: `value-at` ties them to `valueOf`).
+unfoldable pub labelValues : (before : ℕ) → List (List ℕ) → List ℕ
+labelValues before [] = []
+labelValues before (l ∷ ls) =
+    let more = labelValues (cond (hasCode (formOf l)) (before + 1) before) ls in
+    cond (hasLabel (formOf l)) (before ∷ more) more

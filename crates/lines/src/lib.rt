@@ -1,4 +1,7 @@
 // One line of assembly text: its form, and the names and numbers in it.
+pub mod forms;
+pub mod instructions;
+pub mod ranges;
 
 // The form of a line.
 pub enum Form {
@@ -14,4 +17,13 @@ pub enum Form {
     Word,
     // None of these.
     Wrong,
+}
+
+// The names of an instruction, by their numbers among all names: first the operations, then the registers.
+pub struct Names {
+    pub op: usize,
+    pub rd: usize,
+    pub rs: usize,
+    pub rt: usize,
+    pub rm: usize,
 }

@@ -1,4 +1,17 @@
 // The lister: instruction words as assembly text. What it writes and what it answers stand in specs/.
+mod immediates;
+mod lengths;
+mod line;
+mod listing;
+mod pieces;
+
+use crate::listing::first_unknown;
+use crate::listing::has_room;
+use crate::listing::lay_lines;
+ghost use Rattle.lister.specs.Calls.{TextListed};
+
+// The words of an image, as many as can be listed at once.
+const MOST_WORDS: usize = 4096;
 
 // What listing answers.
 pub enum Listed {
@@ -10,4 +23,21 @@ pub enum Listed {
     UnknownOpcode(usize),
     // The lent slice is shorter than the text.
     NoRoom,
+}
+
+// Writes each word as a line of assembly text into the front of `text`; a refusal changes nothing.
+pub fn list(words: &[u64], text: &mut [u8]) -> Listed
+    ensures { λ r. ⌜ TextListed (now (words .entry)) (now (text .entry)) r (now (text .exit)) ⌝ }
+{
+    if MOST_WORDS < words.len() {
+        return Listed::WrongLength;
+    }
+    let bad = first_unknown(words);
+    if bad < words.len() {
+        return Listed::UnknownOpcode(bad);
+    }
+    if !has_room(words, text.len()) {
+        return Listed::NoRoom;
+    }
+    Listed::Bytes(lay_lines(words, text))
 }

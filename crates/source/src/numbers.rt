@@ -7,7 +7,7 @@ ghost use Prim.Native.Nat.{_^_, _≤_, _<_};
 ghost use lib.ListN.{length, take};
 ghost use Rattle.text.specs.Numerals.{DigitValues};
 ghost use Rattle.source.specs.declared.Number.the-variants.{Decimal, Minus, Hexadecimal};
-ghost use Rattle.source.specs.Numbers.{same, digitsUpTo, written, number};
+ghost use Rattle.source.specs.Numbers.{same, digitsUpTo, written, number, isNumber};
 
 // The most digits of a number.
 const DECIMAL_DIGITS: usize = 10;
@@ -26,6 +26,18 @@ pub fn read_number(t: &[u8], values: &[u8; 256]) -> Number
         return as_hexadecimal(digits_up_to(&t[2..], 16, HEXADECIMAL_DIGITS, values));
     }
     as_decimal(digits_up_to(t, 10, DECIMAL_DIGITS, values))
+}
+
+// Whether a token was read as a number.
+pub fn is_some(n: Number) -> bool
+    ensures { λ r. ⌜ r ≡ isNumber n ⌝ }
+{
+    match n {
+        Number::Decimal(_) => true,
+        Number::Minus(_) => true,
+        Number::Hexadecimal(_) => true,
+        Number::NoNumber => false,
+    }
 }
 
 // Reads digits of a base, 1 to `most` of them.

@@ -1,9 +1,9 @@
 // The shape of a line.
-use crate::Number;
 use crate::names::is_definition;
 use crate::names::is_name;
 use crate::names::is_register;
 use crate::numbers::are_same;
+use crate::numbers::is_some;
 use crate::numbers::read_number;
 ghost use mathlib.Core.Path.{_≡_};
 ghost use mathlib.Core.Bool.{_||_};
@@ -78,18 +78,6 @@ pub fn is_number(t: &[u8], values: &[u8; 256]) -> bool
     ensures { λ r. ⌜ r ≡ isNumber (number (now (t .entry))) ⌝ }
 {
     is_some(read_number(t, values))
-}
-
-// Whether a token is read as a number.
-fn is_some(n: Number) -> bool
-    ensures { λ r. ⌜ r ≡ isNumber n ⌝ }
-{
-    match n {
-        Number::Decimal(_) => true,
-        Number::Minus(_) => true,
-        Number::Hexadecimal(_) => true,
-        Number::NoNumber => false,
-    }
 }
 
 // Whether a token is an immediate: a number or a label.

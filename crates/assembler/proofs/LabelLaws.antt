@@ -1,0 +1,298 @@
+-- The label of a line, and the first pass over the lines of a text. Assumes nothing.
+use Prim.Native.Nat.{ℕ, suc, _+_, _-_, _*_, _≤_, _<_}
+use mathlib.Core.Path.{_≡_, refl, sym, _∙_, ap}
+use mathlib.Core.Bool.{Bool, true, false, cond, _&&_, false≢true}
+use mathlib.Core.List.{List, [], _∷_, _++_, append-nil, append-assoc}
+use native.Mathlib.Omega.{arith}
+use native.Mathlib.Nat.{zero-add}
+use lib.Dec.{eqb, leb, ltb}
+use lib.ListN.{length, getD, set, take, drop, length-set, length-take, length-drop, length-append, take-append-drop, drop-of-length-le, List·getD-append}
+use lib.Seq.{length-take-le, take-take, take-append-le, drop-append-le, drop-drop, getD-at, getD-set-same, getD-set-other}
+use borrow.Author.Tests.{lt-ltb, ltb-true, ltb-false}
+use borrow.Author.Count.{below-more}
+use Rattle.text.specs.Bytes.{bytes}
+use Rattle.text.specs.Lines.{lines, firstLine}
+use Rattle.text.proofs.Truth.{and-left, and-right}
+use Rattle.text.proofs.LineLaws.{lines-at}
+use Rattle.source.specs.Bytes.{areRightBytes, isLetter, isLetterOrDigit, all}
+use Rattle.source.specs.Tokens.{tokens, texts}
+use Rattle.source.specs.Names.{isName, defined, isDefinition}
+use Rattle.source.specs.Shapes.{fits, matches, firstShape, formOf as shapeOf}
+use Rattle.symbols.specs.Table.{namesOf}
+use Rattle.symbols.specs.Sound.{Sound, Empty}
+use Rattle.symbols.proofs.NameLaws.{length-names}
+use Rattle.symbols.proofs.EmptyLaws.{empty-sound}
+use Rattle.lines.specs.declared.Form.{Form}
+use Rattle.lines.specs.declared.Form.the-variants.{Nothing, Label, Code, Labelled, Word, Wrong}
+use Rattle.lines.specs.Line.{directive, shapes, formAt, formOf, hasLabel, hasCode, part, labelOf}
+use Rattle.lines.specs.Parts.{partCount, Formed}
+use Rattle.assembler.specs.Text.{codeCount, labels, labelValues}
+use Rattle.assembler.specs.Questions.{mostLabels}
+use Rattle.assembler.specs.Passes.{LabelTable, LabelNoted}
+use Rattle.assembler.proofs.TextLaws.{labels-append, code-append, values-append, length-values}
+
+-- ---- the token that defines a label
+
+first-fits : (d : List ℕ) (g : ℕ) (gs : List ℕ) (ts : List (List ℕ)) → matches d (g ∷ gs) ts ≡ true → fits d g (getD ts 0 []) ≡ true
+unfolding matches
+first-fits d g gs [] e = absurd (false≢true e)
+first-fits d g gs (t ∷ ts) e = and-left (fits d g t) (matches d gs ts) e
+
+colon-defines : (t : List ℕ) → fits directive 58 t ≡ true → isDefinition t ≡ true
+unfolding fits
+colon-defines t e = e
+
+-- A line with a label begins with its definition.
+pub defines : (line : List ℕ) (f : Form) → f ≡ formOf line → hasLabel f ≡ true → isDefinition (part 0 line) ≡ true
+unfolding formOf shapes firstShape
+defines line f is e =
+    go (areRightBytes line) (matches directive (bytes "") ts) (matches directive (bytes ":") ts) (matches directive (bytes "o$,$,$,$,i,i") ts) (matches directive (bytes ":o$,$,$,$,i,i") ts) (matches directive (bytes ".00") ts)
+    (sym (ap hasLabel is) ∙ e)
+    (λ q. colon-defines (part 0 line) (first-fits directive 58 [] ts q))
+    (λ q. colon-defines (part 0 line) (first-fits directive 58 (bytes "o$,$,$,$,i,i") ts q))
+  where
+    ts : List (List ℕ)
+    ts = texts (tokens line)
+
+    go : (right none label code labelled word : Bool)
+        → hasLabel (cond right (formAt (cond none 0 (1 + cond label 0 (1 + cond code 0 (1 + cond labelled 0 (1 + cond word 0 (1 + 0))))))) Wrong) ≡ true
+        → (label ≡ true → isDefinition (part 0 line) ≡ true) → (labelled ≡ true → isDefinition (part 0 line) ≡ true) → isDefinition (part 0 line) ≡ true
+    go false none label code labelled word h a b = absurd (false≢true h)
+    go true true label code labelled word h a b = absurd (false≢true h)
+    go true false true code labelled word h a b = a refl
+    go true false false true labelled word h a b = absurd (false≢true h)
+    go true false false false true word h a b = b refl
+    go true false false false false true h a b = absurd (false≢true h)
+    go true false false false false false h a b = absurd (false≢true h)
+
+name-some : (t : List ℕ) → isName t ≡ true → 1 ≤ length t
+unfolding isName
+name-some [] e = absurd (false≢true e)
+name-some (b ∷ t) e = omega arith
+
+-- It has a letter and the colon.
+two-bytes : (t : List ℕ) → isDefinition t ≡ true → 2 ≤ length t
+unfolding isDefinition
+two-bytes t e =
+    let some = name-some (defined t) (and-right (eqb (getD t (length t - 1) 0) 58) (isName (defined t)) e) in
+    let size = length-take (length t - 1) t in
+    let most : length (take (length t - 1) t) ≤ length t - 1 = rw size (omega arith) in
+    omega arith
+
+has-part : (f : Form) → hasLabel f ≡ true → 0 < partCount f
+has-part Nothing e = absurd (false≢true e)
+has-part Label e = omega arith
+has-part Code e = absurd (false≢true e)
+has-part Labelled e = omega arith
+has-part Word e = absurd (false≢true e)
+has-part Wrong e = absurd (false≢true e)
+
+-- The label of a line stands from a to the colon before b.
+pub record LabelIn (line : List ℕ) (a b : ℕ) : Type 0 where
+  pub order : a + 2 ≤ b
+  pub within : b ≤ length line
+  pub is : take (b - 1 - a) (drop a line) ≡ labelOf line
+
+pub label-in : {line places : List ℕ} {f : Form} → Formed line places f → hasLabel f ≡ true → LabelIn line (getD places 0 0) (getD places 1 0)
+label-in {line} {places} {f} formed e =
+    let p = formed .placed 0 (has-part f e) in
+    let a = getD places 0 0 in
+    let b = getD places 1 0 in
+    let order = p .order in
+    let within = p .within in
+    let rest = length-drop a line in
+    let size : length (part 0 line) ≡ b - a = sym (ap length (p .is)) ∙ length-take-le (b - a) (drop a line) (omega arith) in
+    let two = two-bytes (part 0 line) (defines line f (formed .is) e) in
+    let less : b - 1 - a ≡ length (part 0 line) - 1 = omega arith in
+    record {
+      order = omega arith;
+      within = within;
+      is = sym (take-take (b - 1 - a) (b - a) (drop a line) (omega arith)) ∙ ap (take (b - 1 - a)) (p .is) ∙ ap (λ (k : ℕ). take k (part 0 line)) less;
+    }
+
+-- ---- a part of a line is a part of its text
+
+pub part-in-line : (s : List ℕ) (p e a k : ℕ) → p ≤ e → e ≤ length s → a + k ≤ e - p → take k (drop a (take (e - p) (drop p s))) ≡ take k (drop (p + a) s)
+part-in-line s p e a k h w r =
+    let line = take (e - p) (drop p s) in
+    let rest = drop (e - p) (drop p s) in
+    let size : length line ≡ e - p = length-take-le (e - p) (drop p s) (rw length-drop (omega arith)) in
+    let left = length-drop a line in
+    sym
+    (ap (take k) (sym (drop-drop a p s))
+    ∙ ap (λ (x : List ℕ). take k (drop a x)) (sym (take-append-drop (e - p) (drop p s)))
+    ∙ ap (take k) (drop-append-le a line rest (omega arith))
+    ∙ take-append-le k (drop a line) rest (omega arith))
+
+-- The label of a line of a text.
+pub record LabelOf (source : List ℕ) (p e a b : ℕ) : Type 0 where
+  pub order : a + 2 ≤ b
+  pub within : p + b ≤ e
+  pub is : take (p + b - 1 - (p + a)) (drop (p + a) source) ≡ labelOf (take (e - p) (drop p source))
+
+pub label-of : {source places : List ℕ} {p e : ℕ} {f : Form} → p ≤ e → e ≤ length source → Formed (take (e - p) (drop p source)) places f → hasLabel f ≡ true → LabelOf source p e (getD places 0 0) (getD places 1 0)
+label-of {source} {places} {p} {e} h w formed q =
+    let l = label-in formed q in
+    let a = getD places 0 0 in
+    let b = getD places 1 0 in
+    let line = take (e - p) (drop p source) in
+    let size : length line ≡ e - p = length-take-le (e - p) (drop p source) (rw length-drop (omega arith)) in
+    let order = l .order in
+    let within = l .within in
+    let same : p + b - 1 - (p + a) ≡ b - 1 - a = omega arith in
+    record {
+      order = order;
+      within = omega arith;
+      is = ap (λ (k : ℕ). take k (drop (p + a) source)) same ∙ sym (part-in-line source p e a (b - 1 - a) h w (omega arith)) ∙ l .is;
+    }
+
+-- ---- the first pass
+
+-- The labels of the lines before p are noted: n instructions and m labels.
+pub record Noting (source table values : List ℕ) (p n m : ℕ) : Type 0 where
+  pub done : List (List ℕ)
+  pub split : lines source ≡ done ++ lines (drop p source)
+  pub noted : LabelTable source done table values m
+  pub code : n ≡ codeCount done
+  pub few : 3 * m ≤ p
+  pub small : n ≤ p
+
+pub none-noted : (source table values : List ℕ) → Empty table → length values ≡ mostLabels → Noting source table values 0 0 0
+unfolding namesOf labels codeCount
+none-noted source table values e room =
+    record {
+      done = [];
+      split = refl;
+      noted = record { sound = empty-sound source table e; names = refl; room = room; valued = λ k h. absurd (omega arith) };
+      code = refl;
+      few = omega arith;
+      small = omega arith;
+    }
+
+-- All are.
+pub all-noted : {source table values : List ℕ} {p n m : ℕ} → Noting source table values p n m → length source ≤ p → LabelTable source (lines source) table values m
+unfolding lines
+all-noted {source} {table} {values} {p} {n} {m} d h =
+    let whole : lines source ≡ d .done = d .split ∙ ap (λ (s : List ℕ). d .done ++ lines s) (drop-of-length-le source h) ∙ append-nil (d .done) in
+    rw whole (d .noted)
+
+-- One line more.
+module _ {source table values : List ℕ} {p n m : ℕ} (d : Noting source table values p n m) (inside : p < length source) (e : ℕ) (is : e ≡ p + length (firstLine (drop p source))) (f : Form)
+    (form : f ≡ formOf (take (e - p) (drop p source))) (r : ℕ) (table′ values′ : List ℕ) (note : LabelNoted source p e f table values n m r table′ values′) where
+  line : List ℕ
+  line = take (e - p) (drop p source)
+
+  abbrev next : List (List ℕ)
+  next = d .done ++ (take (e - p) (drop p source) ∷ [])
+
+  next-split : lines source ≡ next ++ lines (drop (e + 1) source)
+  next-split = d .split ∙ ap (λ (x : List (List ℕ)). d .done ++ x) (lines-at source p e inside is) ∙ sym (append-assoc (d .done) (take (e - p) (drop p source) ∷ []) (lines (drop (e + 1) source)))
+
+  next-code : (n′ : ℕ) → n′ ≡ cond (hasCode f) (n + 1) n → n′ ≡ codeCount next
+  unfolding codeCount
+  next-code n′ q = q ∙ go (hasCode f) (ap hasCode form) ∙ sym (code-append (d .done) (take (e - p) (drop p source) ∷ []))
+    where
+      go : (b : Bool) → b ≡ hasCode (formOf (take (e - p) (drop p source))) → cond b (n + 1) n ≡ codeCount (d .done) + cond (hasCode (formOf (take (e - p) (drop p source)))) 1 0
+      go b x = rw (← x) (count b)
+        where
+          count : (b : Bool) → cond b (n + 1) n ≡ codeCount (d .done) + cond b 1 0
+          count true = let c = d .code in omega arith
+          count false = let c = d .code in omega arith
+
+  -- Without a label, ..
+  module _ (no-label : hasLabel f ≡ false) where
+    same-labels : labels next ≡ labels (d .done)
+    unfolding labels
+    same-labels = labels-append (d .done) (take (e - p) (drop p source) ∷ []) ∙ rw (sym (ap hasLabel form) ∙ no-label) (append-nil (labels (d .done)))
+
+    same-values : labelValues 0 next ≡ labelValues 0 (d .done)
+    unfolding labelValues
+    same-values = values-append 0 (d .done) (take (e - p) (drop p source) ∷ []) ∙ rw (sym (ap hasLabel form) ∙ no-label) (append-nil (labelValues 0 (d .done)))
+
+    plain-noted : LabelTable source next table′ values′ r
+    plain-noted =
+        let same = note .none no-label in
+        rw (same .0, same .1, same .2)
+        (record {
+          sound = d .noted .sound;
+          names = d .noted .names ∙ sym same-labels;
+          room = d .noted .room;
+          valued = λ k h l. d .noted .valued k h l ∙ sym (ap (λ (x : List ℕ). getD x k 0) same-values);
+        })
+
+  -- .. and with one.
+  module _ (label : hasLabel f ≡ true) where
+    more-labels : labels next ≡ labels (d .done) ++ (labelOf (take (e - p) (drop p source)) ∷ [])
+    unfolding labels
+    more-labels = labels-append (d .done) (take (e - p) (drop p source) ∷ []) ∙ rw (sym (ap hasLabel form) ∙ label)
+
+    more-values : labelValues 0 next ≡ labelValues 0 (d .done) ++ (n ∷ [])
+    unfolding labelValues
+    more-values =
+        let same : codeCount (d .done) ≡ n = sym (d .code) in
+        values-append 0 (d .done) (take (e - p) (drop p source) ∷ []) ∙ rw (sym (ap hasLabel form) ∙ label, zero-add, same)
+
+    count : length (labelValues 0 (d .done)) ≡ m
+    count = length-values 0 (d .done) ∙ sym (ap length (d .noted .names)) ∙ length-names source table m
+
+    stored : (k : ℕ) → k < m + 1 → k < mostLabels → getD (cond (ltb m mostLabels) (set values m n) values) k 0 ≡ getD (labelValues 0 next) k 0
+    stored k h l =
+        go (ltb m mostLabels) refl (ltb k m) refl
+        ∙ sym (ap (λ (x : List ℕ). getD x k 0) more-values)
+      where
+        before : k < m → getD (labelValues 0 (d .done)) k 0 ≡ getD (labelValues 0 (d .done) ++ (n ∷ [])) k 0
+        before q = sym (List·getD-append (labelValues 0 (d .done)) (n ∷ []) 0 k (rw count q))
+
+        go : (b : Bool) → ltb m mostLabels ≡ b → (t : Bool) → ltb k m ≡ t → getD (cond b (set values m n) values) k 0 ≡ getD (labelValues 0 (d .done) ++ (n ∷ [])) k 0
+        go true q true t = let less = ltb-true k m t in getD-set-other values m k n 0 (λ x. omega arith) ∙ d .noted .valued k less l ∙ before less
+        go false q true t = let less = ltb-true k m t in d .noted .valued k less l ∙ before less
+        go true q false t =
+            let past = ltb-false k m t in
+            let here : k ≡ m = omega arith in
+            let room = d .noted .room in
+            rw here (getD-set-same values m n 0 (omega arith) ∙ sym (getD-at (labelValues 0 (d .done)) n [] 0 m count))
+        go false q false t = let past = ltb-false k m t in let late = ltb-false m mostLabels q in absurd (omega arith)
+
+    label-noted : LabelTable source next table′ values′ r
+    label-noted =
+        let one = note .some label in
+        rw (one .0)
+        (record {
+          sound = one .1;
+          names = one .2 ∙ ap (λ (x : List (List ℕ)). x ++ (labelOf (take (e - p) (drop p source)) ∷ [])) (d .noted .names) ∙ sym more-labels;
+          room = note .sizes .1 ∙ d .noted .room;
+          valued = λ k h l. ap (λ (x : List ℕ). getD x k 0) (one .3) ∙ stored k h l;
+        })
+
+  pub one-noted : (n′ : ℕ) → n′ ≡ cond (hasCode f) (n + 1) n → Noting source table′ values′ (e + 1) n′ r
+  one-noted n′ q = go (hasLabel f) refl
+    where
+      less : n′ ≤ p + 1
+      less = let small = d .small in at (hasCode f) q
+        where
+          at : (b : Bool) → n′ ≡ cond b (n + 1) n → n′ ≤ p + 1
+          at true x = let small = d .small in omega arith
+          at false x = let small = d .small in omega arith
+
+      go : (b : Bool) → hasLabel f ≡ b → Noting source table′ values′ (e + 1) n′ r
+      go true x =
+          let one = note .some x in
+          let few = d .few in
+          let grown : p + 2 ≤ e = one .4 in
+          let count : r ≡ m + 1 = one .0 in
+          let most = less in
+          record { done = next; split = next-split; noted = label-noted x; code = next-code n′ q; few = omega arith; small = omega arith }
+      go false x =
+          let same : r ≡ m = note .none x .0 in
+          let few = d .few in
+          let most = less in
+          record { done = next; split = next-split; noted = plain-noted x; code = next-code n′ q; few = omega arith; small = omega arith }
+
+-- A list in which at most one number is stored keeps its length.
+pub size-kept : (b : Bool) (l after : List ℕ) (i x : ℕ) → after ≡ cond b (set l i x) l → length after ≡ length l
+size-kept true l after i x e = ap length e ∙ length-set l i x
+size-kept false l after i x e = ap length e
+
+-- One more name, given in two ways.
+pub names-more : (ns : List (List ℕ)) (x y : List ℕ) → x ≡ y → ns ++ (x ∷ []) ≡ ns ++ (y ∷ [])
+names-more ns x y e = ap (λ (t : List ℕ). ns ++ (t ∷ [])) e

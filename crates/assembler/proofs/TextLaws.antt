@@ -1,0 +1,100 @@
+-- The lines of a text, taken together and one by one. Assumes nothing.
+use Prim.Native.Nat.{ℕ, suc, _+_, _≤_, _<_}
+use mathlib.Core.Path.{_≡_, refl, sym, _∙_, ap}
+use mathlib.Core.Bool.{Bool, true, false, cond, _&&_}
+use mathlib.Core.List.{List, [], _∷_, _++_, append-nil}
+use native.Mathlib.Omega.{arith}
+use native.Mathlib.Numerals.{add-one}
+use native.Mathlib.Nat.{add-zero}
+use lib.ListN.{length, getD, set}
+use Rattle.source.specs.Numbers.{same, number}
+use Rattle.source.specs.Lookup.{placeOf}
+use Rattle.lines.specs.Line.{formOf, hasLabel, hasCode, hasWord, labelOf, part}
+use Rattle.lines.specs.Ranges.{modulo}
+use Rattle.assembler.specs.Text.{codeCount, labels, valueOf, labelValues}
+use Rattle.assembler.specs.Memories.{encoded, codeOf, stored}
+
+-- ---- two lists of lines
+
+pub labels-append : (a b : List (List ℕ)) → labels (a ++ b) ≡ labels a ++ labels b
+unfolding labels
+labels-append [] b = refl
+labels-append (l ∷ a) b = go (hasLabel (formOf l)) (labels-append a b)
+  where
+    go : (h : Bool) → labels (a ++ b) ≡ labels a ++ labels b → cond h (labelOf l ∷ labels (a ++ b)) (labels (a ++ b)) ≡ cond h (labelOf l ∷ labels a) (labels a) ++ labels b
+    go true e = ap (λ (x : List (List ℕ)). labelOf l ∷ x) e
+    go false e = e
+
+pub code-append : (a b : List (List ℕ)) → codeCount (a ++ b) ≡ codeCount a + codeCount b
+unfolding codeCount
+code-append [] b = omega arith
+code-append (l ∷ a) b = go (hasCode (formOf l)) (code-append a b)
+  where
+    go : (h : Bool) → codeCount (a ++ b) ≡ codeCount a + codeCount b → cond h (suc (codeCount (a ++ b))) (codeCount (a ++ b)) ≡ cond h (suc (codeCount a)) (codeCount a) + codeCount b
+    go true e = omega arith
+    go false e = e
+
+pub values-append : (n : ℕ) (a b : List (List ℕ)) → labelValues n (a ++ b) ≡ labelValues n a ++ labelValues (n + codeCount a) b
+unfolding labelValues codeCount
+values-append n [] b = rw add-zero
+values-append n (l ∷ a) b = go (hasLabel (formOf l)) (hasCode (formOf l)) (λ m. values-append m a b)
+  where
+    count : (h : Bool) → cond h (n + 1) n + codeCount a ≡ n + cond h (suc (codeCount a)) (codeCount a)
+    count true = omega arith
+    count false = refl
+
+    go : (g h : Bool) → ((m : ℕ) → labelValues m (a ++ b) ≡ labelValues m a ++ labelValues (m + codeCount a) b)
+        → cond g (n ∷ labelValues (cond h (n + 1) n) (a ++ b)) (labelValues (cond h (n + 1) n) (a ++ b))
+        ≡ cond g (n ∷ labelValues (cond h (n + 1) n) a) (labelValues (cond h (n + 1) n) a) ++ labelValues (n + cond h (suc (codeCount a)) (codeCount a)) b
+    go true h more = ap (λ (x : List ℕ). n ∷ x) (more (cond h (n + 1) n) ∙ ap (λ (k : ℕ). labelValues (cond h (n + 1) n) a ++ labelValues k b) (count h))
+    go false h more = more (cond h (n + 1) n) ∙ ap (λ (k : ℕ). labelValues (cond h (n + 1) n) a ++ labelValues k b) (count h)
+
+pub words-append : (all a b : List (List ℕ)) → codeOf all (a ++ b) ≡ codeOf all a ++ codeOf all b
+unfolding codeOf
+words-append all [] b = refl
+words-append all (l ∷ a) b = go (hasCode (formOf l)) (words-append all a b)
+  where
+    go : (h : Bool) → codeOf all (a ++ b) ≡ codeOf all a ++ codeOf all b → cond h (encoded all l ∷ codeOf all (a ++ b)) (codeOf all (a ++ b)) ≡ cond h (encoded all l ∷ codeOf all a) (codeOf all a) ++ codeOf all b
+    go true e = ap (λ (x : List ℕ). encoded all l ∷ x) e
+    go false e = e
+
+pub stored-append : (m : List ℕ) (a b : List (List ℕ)) → stored m (a ++ b) ≡ stored (stored m a) b
+unfolding stored
+stored-append m [] b = refl
+stored-append m (l ∷ a) b = stored-append (cond (hasWord (formOf l)) (set m (modulo 12 (number (part 1 l))) (modulo 32 (number (part 2 l)))) m) a b
+
+-- ---- how many
+
+-- There are as many values as labels, ..
+pub length-values : (n : ℕ) (ls : List (List ℕ)) → length (labelValues n ls) ≡ length (labels ls)
+unfolding labelValues labels
+length-values n [] = refl
+length-values n (l ∷ ls) = go (hasLabel (formOf l)) (hasCode (formOf l)) (λ m. length-values m ls)
+  where
+    go : (g h : Bool) → ((m : ℕ) → length (labelValues m ls) ≡ length (labels ls)) → length (cond g (n ∷ labelValues (cond h (n + 1) n) ls) (labelValues (cond h (n + 1) n) ls)) ≡ length (cond g (labelOf l ∷ labels ls) (labels ls))
+    go true h more = ap suc (more (cond h (n + 1) n))
+    go false h more = more (cond h (n + 1) n)
+
+-- .. and as many words as instructions.
+pub length-words : (all ls : List (List ℕ)) → length (codeOf all ls) ≡ codeCount ls
+unfolding codeOf codeCount
+length-words all [] = refl
+length-words all (l ∷ ls) = go (hasCode (formOf l)) (length-words all ls)
+  where
+    go : (h : Bool) → length (codeOf all ls) ≡ codeCount ls → length (cond h (encoded all l ∷ codeOf all ls) (codeOf all ls)) ≡ cond h (suc (codeCount ls)) (codeCount ls)
+    go true e = ap suc e
+    go false e = e
+
+-- ---- the value of a label
+
+-- It is the one at its place.
+pub value-at : (n : ℕ) (ls : List (List ℕ)) (t : List ℕ) → valueOf n ls t ≡ getD (labelValues n ls) (placeOf (labels ls) t) 0
+unfolding valueOf labelValues labels placeOf
+value-at n [] t = refl
+value-at n (l ∷ ls) t = go (hasLabel (formOf l)) (hasCode (formOf l)) (same t (labelOf l)) refl (λ m. value-at m ls t)
+  where
+    go : (g h s : Bool) → same t (labelOf l) ≡ s → ((m : ℕ) → valueOf m ls t ≡ getD (labelValues m ls) (placeOf (labels ls) t) 0) → cond (g && s) n (valueOf (cond h (n + 1) n) ls t)
+        ≡ getD (cond g (n ∷ labelValues (cond h (n + 1) n) ls) (labelValues (cond h (n + 1) n) ls)) (placeOf (cond g (labelOf l ∷ labels ls) (labels ls)) t) 0
+    go true h true e more = rw e
+    go true h false e more = rw e (more (cond h (n + 1) n))
+    go false h s e more = more (cond h (n + 1) n)

@@ -1,0 +1,86 @@
+-- `assembler::labels::find_labels` meets its contract.
+use Prim.Native.Nat.{_+_, _-_, _≤_}
+use mathlib.Core.Path.{_≡_, refl, sym, _∙_}
+use native.Mathlib.Omega.{arith}
+use lib.ListN.{length}
+use borrow.Author.Needs.{needs}
+use Rattle.lines.specs.Parts.{mostPlaces}
+use Rattle.assembler.specs.Passes.{tableWords}
+use Rattle.assembler.proofs.LabelLaws.{Noting, none-noted, one-noted, all-noted}
+use Rattle.assembler.proofs.labels.find_labels.Statement.{statement}
+use Rattle.assembler.proofs.labels.find_labels.Tie as tie
+
+abbrev Inv-loop : tie.InvT-loop
+Inv-loop source table₀ values₀ places₀ digits p₀ n₀ m₀ table values places p n m = (Noting source table values p n m) × (p ≤ length source + 1) × (length table ≡ tableWords) × (length places ≡ mostPlaces)
+
+abbrev μ-loop : tie.MeasureT-loop
+μ-loop source table₀ values₀ places₀ digits p₀ n₀ m₀ table values places p n m = length source + 1 - p
+
+loop-holds : tie.Need-loop-holds Inv-loop μ-loop
+loop-holds c = let s = c .before .before .before .before .pre in (none-noted _ _ _ (s .1) (s .3), omega arith, s .2, s .4)
+
+line-end-requires : tie.Need-line-end-requires Inv-loop μ-loop
+line-end-requires c κs = omega arith
+
+sub-line-form : tie.Need-sub-line-form Inv-loop μ-loop
+sub-line-form c = let e = c .line-end .ensures in omega (arith, e .0)
+
+part-line-form-start : tie.Need-part-line-form-start Inv-loop μ-loop
+part-line-form-start c = let e = c .line-end .ensures in let h : c .before .before .loop .p ≤ c .line-end .result = omega (arith, e .0) in search (needs, h)
+
+part-line-form-end : tie.Need-part-line-form-end Inv-loop μ-loop
+part-line-form-end c = let e = c .line-end .ensures .1 in search (needs, e)
+
+line-form-requires : tie.Need-line-form-requires Inv-loop μ-loop
+line-form-requires c κs = (c .before .before .before .before .loop .inv .3, c .before .before .before .before .before .before .before .before .before .pre .5)
+
+note-label-requires : tie.Need-note-label-requires Inv-loop μ-loop
+note-label-requires c κs = let l = c .before .before .before .before .before .before .before .before .before .before .loop in let e = c .before .before .before .before .before .before .before .before .line-end .ensures in let d = l .inv .0 in
+    (omega arith, e .1, omega (arith, c .before .before .before .before .before .before .before .before .before .before .before .before .before .before .before .pre .0), c .before .before .before .before .before .line-form .ensures, d .noted .sound, omega (arith, d .few, c .before .before .before .before .before .before .before .before .before .before .before .before .before .before .before .pre .0, l .inv .2), omega (arith, d .small, c .before .before .before .before .before .before .before .before .before .before .before .before .before .before .before .pre .0), omega (arith, d .few, c .before .before .before .before .before .before .before .before .before .before .before .before .before .before .before .pre .0), d .noted .room)
+
+after-code-requires : tie.Need-after-code-requires Inv-loop μ-loop
+after-code-requires c κs = let l = c .before .before .before .before .before .before .before .before .before .before .before .before .before .before .before .loop in let d = l .inv .0 in omega (arith, d .small, c .before .before .before .before .before .before .before .before .before .before .before .before .before .before .before .before .before .before .before .before .pre .0)
+
+add-p : tie.Need-add-p Inv-loop μ-loop
+add-p c = let e = c .before .before .before .before .before .before .before .before .before .before .before .before .before .before .line-end .ensures .1 in omega (arith, e, c .before .before .before .before .before .before .before .before .before .before .before .before .before .before .before .before .before .before .before .before .before .pre .0)
+
+loop-less : tie.Need-loop-less Inv-loop μ-loop
+loop-less c = let e = c .before .before .before .before .before .before .before .before .before .before .before .before .before .before .line-end .ensures in omega (arith, e .0, e .1)
+
+loop-again : tie.Need-loop-again Inv-loop μ-loop
+loop-again c = let l = c .before .before .before .before .before .before .before .before .before .before .before .before .before .before .before .before .loop in let e = c .before .before .before .before .before .before .before .before .before .before .before .before .before .before .line-end in let f = c .before .before .before .before .before .before .before .before .before .before .before .line-form in let o = c .before .before .before .before .before .note-label in
+    (one-noted (l .inv .0) (c .before .before .before .before .before .before .before .before .before .before .before .before .before .before .before .loop-test .taken) (e .result) (e .ensures .0) (f .result) (f .ensures .is) (o .result) _ _ (o .ensures) (c .after-code .result) (c .after-code .ensures), omega arith, o .ensures .sizes .0 ∙ l .inv .2, f .ensures .room)
+
+same-length : tie.Need-same-length Inv-loop μ-loop
+same-length c = c .before .loop .inv .2 ∙ sym (c .before .before .before .before .before .before .pre .2)
+
+same-length-2 : tie.Need-same-length-2 Inv-loop μ-loop
+same-length-2 c = c .before .loop .inv .0 .noted .room ∙ sym (c .before .before .before .before .before .before .pre .3)
+
+same-length-3 : tie.Need-same-length-3 Inv-loop μ-loop
+same-length-3 c = c .before .loop .inv .3 ∙ sym (c .before .before .before .before .before .before .pre .4)
+
+returns : tie.Need-returns Inv-loop μ-loop
+returns c = (all-noted (c .before .loop .inv .0) (omega arith), c .before .loop .inv .3)
+
+pub find-labels-spec : {M : Type 1} → statement M
+find-labels-spec =
+    tie.close
+    (tie.spec
+    Inv-loop
+    μ-loop
+    loop-holds
+    line-end-requires
+    sub-line-form
+    part-line-form-start
+    part-line-form-end
+    line-form-requires
+    note-label-requires
+    after-code-requires
+    add-p
+    loop-less
+    loop-again
+    same-length
+    same-length-2
+    same-length-3
+    returns)

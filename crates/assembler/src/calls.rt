@@ -1,0 +1,101 @@
+// The call: a text assembled into a lent image and data memory.
+use crate::Assembled;
+use crate::Refusal;
+use crate::labels::find_labels;
+use crate::store::copy_image;
+use crate::translate::translate;
+use lines::instructions::NAMES;
+use lines::instructions::add_names;
+use text::digits::digit_values;
+use words::copies::copy_words;
+ghost use mathlib.Core.Path.{_≡_};
+ghost use mathlib.Core.Bool.{_&&_};
+ghost use Prim.Native.Nat.{_≤_};
+ghost use lib.Dec.{leb};
+ghost use lib.ListN.{length, replicate};
+ghost use Rattle.text.specs.Questions.{refused as refusedOf};
+ghost use Rattle.files.specs.Sizes.{imageWords, dataWords, isImageLength, isDataLength};
+ghost use Rattle.assembler.specs.Questions.{mostSource};
+ghost use Rattle.assembler.specs.Answers.{assembledTold};
+ghost use Rattle.assembler.specs.Promises.{Assembling};
+ghost use Rattle.assembler.specs.Passes.{Translated};
+
+const MOST_SOURCE: usize = 262_144;
+
+const MEMORY_WORDS: usize = 4096;
+
+// Assembles a text of up to 262,144 bytes into an instruction image and a data memory of 4,096 words each.
+pub fn assemble(source: &[u8], image: &mut [u64], memory: &mut [u32]) -> Assembled
+    ensures { λ r. ⌜ Assembling (now (source .entry)) (now (image .entry)) (now (memory .entry)) r (now (image .exit)) (now (memory .exit)) ⌝ }
+{
+    if !are_right_lengths(source.len(), image.len(), memory.len()) {
+        return Assembled::WrongLength;
+    }
+    let mut words = [0u64; 4096];
+    let mut stored = [0u32; 4096];
+    let r = pass_twice(source, &mut words, &mut stored);
+    if r.number != 0 {
+        return refused(r);
+    }
+    copy_image(image, &words);
+    copy_words(memory, &stored);
+    Assembled::Done
+}
+
+// "are the lent lengths those above? 1"
+fn are_right_lengths(source: usize, image: usize, memory: usize) -> bool
+    ensures { λ r. ⌜ r ≡ (leb source mostSource && isImageLength image && isDataLength memory) ⌝ }
+{
+    if MOST_SOURCE < source {
+        return false;
+    }
+    if image != MEMORY_WORDS {
+        return false;
+    }
+    memory == MEMORY_WORDS
+}
+
+// Both passes over a text, with their working space: the first refusal, and what the text stores in words and a data memory that are zero.
+fn pass_twice(source: &[u8], words: &mut [u64], memory: &mut [u32]) -> Refusal
+    requires { ⌜ (length (now source) ≤ mostSource) × (now words ≡ replicate imageWords 0) × (now memory ≡ replicate dataWords 0) ⌝ }
+    ensures { λ r. ⌜ Translated (now (source .entry)) r (now (words .exit)) (now (memory .exit)) ⌝ }
+{
+    let names = NAMES;
+    let mut name_table = [0u32; 4716];
+    add_names(&names, &mut name_table);
+    let digits = digit_values();
+    let mut places = [0usize; 28];
+    let mut table = [0u32; 353624];
+    let mut values = [0u32; 1024];
+    let count = find_labels(source, &mut table, &mut values, &mut places, &digits);
+    translate(
+        source,
+        &names,
+        &name_table,
+        &table,
+        &values,
+        count,
+        &digits,
+        &mut places,
+        words,
+        memory,
+    )
+}
+
+// The answer that tells a refusal.
+fn refused(r: Refusal) -> Assembled
+    requires { ⌜ (2 ≤ r .number) × (r .number ≤ 8) ⌝ }
+    ensures { λ a. ⌜ assembledTold a ≡ refusedOf (r .number) (r .line) ⌝ }
+{
+    let number = r.number;
+    let line = r.line;
+    match number {
+        2 => Assembled::BadBytes(line),
+        3 => Assembled::WrongForm(line),
+        4 => Assembled::UnknownName(line),
+        5 => Assembled::OutOfRange(line),
+        6 => Assembled::DefinedBefore(line),
+        7 => Assembled::Undefined(line),
+        _ => Assembled::NoPlace(line),
+    }
+}

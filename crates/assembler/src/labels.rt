@@ -1,0 +1,102 @@
+// The first pass: the labels of a text, and their values.
+use crate::ask::MOST_LABELS;
+use lines::Form;
+use lines::forms::has_code;
+use lines::forms::has_label;
+use lines::forms::line_form;
+use symbols::add;
+use text::lines::line_end;
+ghost use mathlib.Core.Path.{_≡_};
+ghost use mathlib.Core.Bool.{cond};
+ghost use Prim.Native.Nat.{_+_, _-_, _*_, _^_, _≤_, _<_};
+ghost use lib.Dec.{ltb};
+ghost use lib.ListN.{length, take, drop, set};
+ghost use Rattle.text.specs.Lines.{lines};
+ghost use Rattle.text.specs.Numerals.{DigitValues};
+ghost use Rattle.lines.specs.Line.{hasLabel, hasCode};
+ghost use Rattle.lines.specs.Parts.{mostPlaces, Formed};
+ghost use Rattle.symbols.specs.Table.{entryAt};
+ghost use Rattle.symbols.specs.Sound.{Empty, Sound};
+ghost use Rattle.assembler.specs.Questions.{mostSource, mostLabels};
+ghost use Rattle.assembler.specs.Passes.{LabelTable, LabelNoted, tableWords};
+
+// Fills an empty table with the labels of a text, and `values` with the values of the first 1,024; how many labels there are.
+pub fn find_labels(
+    source: &[u8],
+    table: &mut [u32],
+    values: &mut [u32],
+    places: &mut [usize],
+    digits: &[u8; 256],
+) -> usize
+    requires { ⌜ (length (now source) ≤ mostSource) × Empty (now table) × (length (now table) ≡ tableWords) × (length (now values) ≡ mostLabels) × (length (now places) ≡ mostPlaces) × DigitValues (now digits) ⌝ }
+    ensures { λ r. ⌜ (LabelTable (now (source .entry)) (lines (now (source .entry))) (now (table .exit)) (now (values .exit)) r) × (length (now (places .exit)) ≡ mostPlaces) ⌝ }
+{
+    let mut p = 0;
+    let mut n = 0;
+    let mut m = 0;
+    while p < source.len() {
+        let e = line_end(source, p);
+        let f = line_form(&source[p..e], places, digits);
+        m = note_label(source, p, e, f, places, table, values, n, m);
+        n = after_code(f, n);
+        p = e + 1;
+    }
+    m
+}
+
+// Adds the label of the line from p to e, if it defines one, to the m labels before it; n instructions stand before it. How many labels there are then.
+fn note_label(
+    source: &[u8],
+    p: usize,
+    e: usize,
+    f: Form,
+    places: &[usize],
+    table: &mut [u32],
+    values: &mut [u32],
+    n: usize,
+    m: usize,
+) -> usize
+    requires { ⌜ (p ≤ e) × (e ≤ length (now source)) × (length (now source) < 2 ^ 32) × (Formed (take (e - p) (drop p (now source))) (now places) f) × (Sound (now source) (now table) m) × (entryAt (m + 1) ≤ length (now table)) × (n < 2 ^ 32) × (m + 1 < 2 ^ 32) × (length (now values) ≡ mostLabels) ⌝ }
+    ensures { λ r. ⌜ LabelNoted (now (source .entry)) p e f (now (table .entry)) (now (values .entry)) n m r (now (table .exit)) (now (values .exit)) ⌝ }
+{
+    if !has_label(f) {
+        return m;
+    }
+    let start = p + places[0];
+    let end = p + places[1] - 1;
+    add(source, table, m, start, end);
+    note_value(values, n, m);
+    m + 1
+}
+
+// Stores the value of label m, if it is one of the first 1,024.
+fn note_value(values: &mut [u32], n: usize, m: usize)
+    requires { ⌜ (length (now values) ≡ mostLabels) × (n < 2 ^ 32) ⌝ }
+    ensures { λ _. ⌜ now (values .exit) ≡ cond (ltb m mostLabels) (set (now (values .entry)) m n) (now (values .entry)) ⌝ }
+{
+    if m < MOST_LABELS {
+        values[m] = n as u32;
+    }
+}
+
+// How many instructions there are after a line of this form.
+pub fn after_code(f: Form, n: usize) -> usize
+    requires { ⌜ n < 2 ^ 32 ⌝ }
+    ensures { λ r. ⌜ r ≡ cond (hasCode f) (n + 1) n ⌝ }
+{
+    if has_code(f) {
+        return n + 1;
+    }
+    n
+}
+
+// How many labels there are after it.
+pub fn after_label(f: Form, m: usize) -> usize
+    requires { ⌜ m < 2 ^ 32 ⌝ }
+    ensures { λ r. ⌜ r ≡ cond (hasLabel f) (m + 1) m ⌝ }
+{
+    if has_label(f) {
+        return m + 1;
+    }
+    m
+}

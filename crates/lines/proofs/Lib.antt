@@ -1,0 +1,3 @@
+-- Laws of lines.
+pub mod FormLaws
+pub mod NameLaws

@@ -1,0 +1,117 @@
+-- Immediates read as signed numbers, and their decimals. Assumes nothing.
+use Prim.Native.Char.{code}
+use Prim.Native.Nat.{ℕ, suc, _+_, _-_, _^_, _≤_, _<_}
+use mathlib.Core.Path.{_≡_, refl, sym, _∙_, ap}
+use mathlib.Core.Bool.{Bool, true, false, false≢true}
+use mathlib.Core.List.{_∷_}
+use native.Mathlib.Nat.{zero-add}
+use native.Mathlib.Omega.{arith}
+use lib.Dec.{ltb}
+use lib.IntN.{ℤ, pos, negsuc, natAbs, _-ℤ_}
+use lib.ListN.{length}
+use lib.Signed.{mag, ltZ}
+use mir.Syntax.{w32}
+use mir.Val.{toZ, ofZ}
+use mir.Facts.{toZ-pos, toZ-neg, toZ-ofZ}
+use borrow.Author.Tests.{lt-ltb, le-ltb, ltb-true, ltb-false}
+use Rattle.text.specs.Numerals.{digitCount, decimal}
+use Rattle.text.proofs.DecimalLaws.{length-decimal, count-le}
+use Rattle.isa.specs.Word.{signExtended}
+use Rattle.lister.specs.Listing.{signedDecimal}
+
+-- ---- an immediate, read as a signed number
+
+-- Below 2^11 an immediate is itself, ..
+reads-plain : (i : ℕ) → i < 2 ^ 11 → toZ w32 (signExtended i) ≡ pos i
+reads-plain i h = rw (lt-ltb i (2 ^ 11) h) (toZ-pos w32 (omega arith))
+
+-- .. and from there on it is what lacks to 2^12, with a minus.
+reads-negative : (i : ℕ) → 2 ^ 11 ≤ i → i < 2 ^ 12 → toZ w32 (signExtended i) ≡ negsuc (2 ^ 12 - suc i)
+reads-negative i low high =
+    let bits : 2 ^ 32 - 2 ^ 12 + i ≡ 2 ^ 32 - suc (2 ^ 12 - suc i) = omega arith in
+    rw (le-ltb i (2 ^ 11) low, bits) (toZ-neg w32 (2 ^ 12 - suc i) (omega arith))
+
+-- z is the immediate i, read as a signed number.
+module _ (i : ℕ) (z : ℤ) (fits : i < 2 ^ 12) (e : z ≡ toZ w32 (signExtended i)) where
+  pub small : mag z < 2 ^ 12
+  small = go (ltb i (2 ^ 11)) refl
+    where
+      go : (t : Bool) → ltb i (2 ^ 11) ≡ t → mag z < 2 ^ 12
+      go true q = rw (e, reads-plain i (ltb-true i _ q)) fits
+      go false q = rw (e, reads-negative i (ltb-false i _ q) fits) (omega arith)
+
+  -- Where it is negative, its decimal is a minus and that of its magnitude.
+  module _ (size : ℕ) (s : size ≡ natAbs z) where
+    pub negative-text : ltZ z (pos 0) ≡ true → signedDecimal i ≡ code "-" ∷ decimal size
+    unfolding signedDecimal
+    negative-text below = go (ltb i (2 ^ 11)) refl
+      where
+        go : (t : Bool) → ltb i (2 ^ 11) ≡ t → signedDecimal i ≡ code "-" ∷ decimal size
+        go true q =
+            let none = ltb-true i 0 (sym (ap (λ (z : ℤ). ltZ z (pos 0)) (e ∙ reads-plain i (ltb-true i _ q))) ∙ below) in
+            absurd (omega arith)
+        go false q =
+            let lacks : 2 ^ 12 - i ≡ suc (2 ^ 12 - suc i) = omega arith in
+            rw (q, s, e, reads-negative i (ltb-false i _ q) fits, lacks)
+
+    -- Else it is that of the number.
+    pub plain-text : ltZ z (pos 0) ≡ false → signedDecimal i ≡ decimal size
+    unfolding signedDecimal
+    plain-text above = go (ltb i (2 ^ 11)) refl
+      where
+        go : (t : Bool) → ltb i (2 ^ 11) ≡ t → signedDecimal i ≡ decimal size
+        go true q = rw (q, s, e, reads-plain i (ltb-true i _ q))
+        go false q =
+            absurd (false≢true (sym above ∙ ap (λ (z : ℤ). ltZ z (pos 0)) (e ∙ reads-negative i (ltb-false i _ q) fits)))
+
+    pub negative-length : ltZ z (pos 0) ≡ true → length (signedDecimal i) ≡ 1 + digitCount 10 size
+    negative-length below = rw (negative-text below, ← length-decimal size) (omega arith)
+
+    pub plain-length : ltZ z (pos 0) ≡ false → length (signedDecimal i) ≡ digitCount 10 size
+    plain-length above = rw (plain-text above, length-decimal)
+
+-- ---- a signed number without its sign
+
+-- What the code takes from 0 where it is negative.
+negated : (z : ℤ) → ltZ z (pos 0) ≡ true → pos 0 -ℤ z ≡ pos (natAbs z)
+negated (pos n) e = let none = ltb-true n 0 e in absurd (omega arith)
+negated (negsuc n) e = ap pos (zero-add (suc n))
+
+not-negated : (z : ℤ) → ltZ z (pos 0) ≡ false → z ≡ pos (natAbs z)
+not-negated (pos n) e = refl
+not-negated (negsuc n) e = absurd (false≢true (sym e))
+
+magnitude-le : (z : ℤ) → natAbs z ≤ suc (mag z)
+magnitude-le (pos n) = omega arith
+magnitude-le (negsuc n) = omega arith
+
+module _ (z : ℤ) (few : mag z < 2 ^ 12) where
+  -- It is held in 32 bits as it is.
+  held : toZ w32 (ofZ w32 z) ≡ z
+  held = toZ-ofZ {w = w32} {z = z} (record { sfits = omega arith })
+
+  pub magnitude-lt : natAbs z < 2 ^ 31
+  magnitude-lt = omega (arith, magnitude-le z)
+
+  -- Below 0: taken from 0 it is its magnitude.
+  module _ (below : ltZ (toZ w32 (ofZ w32 z)) (pos 0) ≡ true) where
+    pub taken-from-zero : pos 0 -ℤ toZ w32 (ofZ w32 z) ≡ pos (natAbs z)
+    taken-from-zero = rw held (negated z (rw held at below))
+
+    pub reads-magnitude : toZ w32 (ofZ w32 (pos 0 -ℤ toZ w32 (ofZ w32 z))) ≡ pos (natAbs z)
+    reads-magnitude = rw taken-from-zero (toZ-pos w32 magnitude-lt)
+
+  -- From 0 on it is its magnitude itself.
+  pub reads-itself : ltZ (toZ w32 (ofZ w32 z)) (pos 0) ≡ false → toZ w32 (ofZ w32 z) ≡ pos (natAbs z)
+  reads-itself above = rw held (not-negated z (rw held at above))
+
+-- ---- how long
+
+-- A minus and four digits at most.
+pub immediate-most : (i : ℕ) → i < 2 ^ 12 → length (signedDecimal i) ≤ 5
+unfolding signedDecimal
+immediate-most i fits = go (ltb i (2 ^ 11)) refl
+  where
+    go : (t : Bool) → ltb i (2 ^ 11) ≡ t → length (signedDecimal i) ≤ 5
+    go true q = rw (q, length-decimal) (omega (arith, count-le 10 (omega arith) 3 i (omega arith)))
+    go false q = rw (q, length-decimal) (omega (arith, count-le 10 (omega arith) 3 (2 ^ 12 - i) (omega arith)))

@@ -1,0 +1,6 @@
+-- Laws that belong to no one function.
+pub mod PieceLaws
+pub mod ImmediateLaws
+pub mod LineLaws
+pub mod ListingLaws
+pub mod AnswerLaws

@@ -1,0 +1,169 @@
+-- `lister::pieces::register_piece` meets its contract.
+use Prim.Native.Nat.{zero-le}
+use borrow.Author.Needs.{needs}
+use Rattle.text.proofs.Truth.{past}
+use Rattle.text.specs.Numerals.{lowBytes}
+use Rattle.isa.specs.Registers.{registerName}
+use Rattle.names.proofs.NameLaws.{no-register}
+use Rattle.lister.proofs.pieces.register_piece.Statement.{statement}
+use Rattle.lister.proofs.pieces.register_piece.Tie as tie
+
+piece-requires : tie.Need-piece-requires
+piece-requires c κs = search needs
+
+piece-requires-2 : tie.Need-piece-requires-2
+piece-requires-2 c κs = search needs
+
+piece-requires-3 : tie.Need-piece-requires-3
+piece-requires-3 c κs = search needs
+
+piece-requires-4 : tie.Need-piece-requires-4
+piece-requires-4 c κs = search needs
+
+piece-requires-5 : tie.Need-piece-requires-5
+piece-requires-5 c κs = search needs
+
+piece-requires-6 : tie.Need-piece-requires-6
+piece-requires-6 c κs = search needs
+
+piece-requires-7 : tie.Need-piece-requires-7
+piece-requires-7 c κs = search needs
+
+piece-requires-8 : tie.Need-piece-requires-8
+piece-requires-8 c κs = search needs
+
+piece-requires-9 : tie.Need-piece-requires-9
+piece-requires-9 c κs = search needs
+
+piece-requires-10 : tie.Need-piece-requires-10
+piece-requires-10 c κs = search needs
+
+piece-requires-11 : tie.Need-piece-requires-11
+piece-requires-11 c κs = search needs
+
+piece-requires-12 : tie.Need-piece-requires-12
+piece-requires-12 c κs = search needs
+
+piece-requires-13 : tie.Need-piece-requires-13
+piece-requires-13 c κs = search needs
+
+piece-requires-14 : tie.Need-piece-requires-14
+piece-requires-14 c κs = search needs
+
+piece-requires-15 : tie.Need-piece-requires-15
+piece-requires-15 c κs = search needs
+
+piece-requires-16 : tie.Need-piece-requires-16
+piece-requires-16 c κs = search needs
+
+piece-requires-17 : tie.Need-piece-requires-17
+piece-requires-17 c κs = search needs
+
+returns : tie.Need-returns
+unfolding registerName lowBytes
+returns c = rw (c .before .before .match .keys1, c .piece .ensures)
+
+returns-2 : tie.Need-returns-2
+unfolding registerName lowBytes
+returns-2 c = rw (c .before .before .match .keys2, c .piece2 .ensures)
+
+returns-3 : tie.Need-returns-3
+unfolding registerName lowBytes
+returns-3 c = rw (c .before .before .match .keys3, c .piece3 .ensures)
+
+returns-4 : tie.Need-returns-4
+unfolding registerName lowBytes
+returns-4 c = rw (c .before .before .match .keys4, c .piece4 .ensures)
+
+returns-5 : tie.Need-returns-5
+unfolding registerName lowBytes
+returns-5 c = rw (c .before .before .match .keys5, c .piece5 .ensures)
+
+returns-6 : tie.Need-returns-6
+unfolding registerName lowBytes
+returns-6 c = rw (c .before .before .match .keys6, c .piece6 .ensures)
+
+returns-7 : tie.Need-returns-7
+unfolding registerName lowBytes
+returns-7 c = rw (c .before .before .match .keys7, c .piece7 .ensures)
+
+returns-8 : tie.Need-returns-8
+unfolding registerName lowBytes
+returns-8 c = rw (c .before .before .match .keys8, c .piece8 .ensures)
+
+returns-9 : tie.Need-returns-9
+unfolding registerName lowBytes
+returns-9 c = rw (c .before .before .match .keys9, c .piece9 .ensures)
+
+returns-10 : tie.Need-returns-10
+unfolding registerName lowBytes
+returns-10 c = rw (c .before .before .match .keys10, c .piece10 .ensures)
+
+returns-11 : tie.Need-returns-11
+unfolding registerName lowBytes
+returns-11 c = rw (c .before .before .match .keys11, c .piece11 .ensures)
+
+returns-12 : tie.Need-returns-12
+unfolding registerName lowBytes
+returns-12 c = rw (c .before .before .match .keys12, c .piece12 .ensures)
+
+returns-13 : tie.Need-returns-13
+unfolding registerName lowBytes
+returns-13 c = rw (c .before .before .match .keys13, c .piece13 .ensures)
+
+returns-14 : tie.Need-returns-14
+unfolding registerName lowBytes
+returns-14 c = rw (c .before .before .match .keys14, c .piece14 .ensures)
+
+returns-15 : tie.Need-returns-15
+unfolding registerName lowBytes
+returns-15 c = rw (c .before .before .match .keys15, c .piece15 .ensures)
+
+returns-16 : tie.Need-returns-16
+unfolding registerName lowBytes
+returns-16 c = rw (c .before .before .match .keys16, c .piece16 .ensures)
+
+returns-17 : tie.Need-returns-17
+unfolding lowBytes
+returns-17 c =
+    let n = c .before .before .before .args .n in
+    rw (no-register n (past 0 16 n zero-le (c .before .before .match .rest)), c .piece17 .ensures)
+
+pub register-piece-spec : {M : Type 1} → statement M
+register-piece-spec =
+    tie.close
+    (tie.spec
+    piece-requires
+    piece-requires-2
+    piece-requires-3
+    piece-requires-4
+    piece-requires-5
+    piece-requires-6
+    piece-requires-7
+    piece-requires-8
+    piece-requires-9
+    piece-requires-10
+    piece-requires-11
+    piece-requires-12
+    piece-requires-13
+    piece-requires-14
+    piece-requires-15
+    piece-requires-16
+    piece-requires-17
+    returns
+    returns-2
+    returns-3
+    returns-4
+    returns-5
+    returns-6
+    returns-7
+    returns-8
+    returns-9
+    returns-10
+    returns-11
+    returns-12
+    returns-13
+    returns-14
+    returns-15
+    returns-16
+    returns-17)

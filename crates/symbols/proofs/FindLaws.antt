@@ -1,0 +1,111 @@
+-- A name looked for along its chain. Assumes nothing.
+use Prim.Native.Nat.{ℕ, _+_, _≤_, _<_}
+use mathlib.Core.Path.{_≡_, sym, _∙_, ap, subst}
+use mathlib.Core.Logic.{_⊎_, inl, inr, ⊎-elim}
+use mathlib.Core.Bool.{Bool, true, false, _&&_, and-false, false≢true}
+use mathlib.Core.List.{List}
+use native.Mathlib.Omega.{arith}
+use lib.Dec.{ltb}
+use borrow.Author.Tests.{ltb-true, lt-ltb, le-ltb}
+use Rattle.text.proofs.Truth.{and-left, and-right}
+use Rattle.source.specs.Numbers.{same}
+use Rattle.symbols.specs.Keys.{keyOf, bucketOf}
+use Rattle.symbols.specs.Table.{headOf, nextOf, keyAt, part, startOf, endOf, nameAt, namesOf, OnChain}
+use Rattle.symbols.specs.Table.OnChain.{here, there}
+use Rattle.symbols.specs.Sound.{Entry, Sound, Found}
+use Rattle.symbols.proofs.LookupLaws.{same-self, same-equal, other-same, is-among, none-among}
+use Rattle.symbols.proofs.NameLaws.{length-names, names-at}
+
+-- ---- chains
+
+-- What is on a chain is its first entry, or on the chain after it; ..
+chain-cases : (table : List ℕ) (j : ℕ) {link k : ℕ} → OnChain table link k → link ≡ j + 1 → (k ≡ j) ⊎ OnChain table (nextOf table j) k
+chain-cases table j (here e) q = inl (omega arith)
+chain-cases table j (there {k = k} i e rest) q =
+    let same : i ≡ j = omega arith in
+    inr (subst (λ (x : ℕ). OnChain table (nextOf table x) k) same rest)
+
+-- .. an empty chain has none.
+chain-ends : (table : List ℕ) {link k : ℕ} → OnChain table link k → link ≡ 0 → ⊥
+chain-ends table (here e) q = omega arith
+chain-ends table (there j e rest) q = omega arith
+
+-- ---- whether an entry is one of the first and has a name
+
+module _ (source table : List ℕ) (below k : ℕ) (t : List ℕ) where
+  -- It has another key, and so another name.
+  pub other-key : (key : ℕ) → key ≡ keyOf t → Entry source table k → (keyAt table k ≡ key → ⊥) → false ≡ (ltb k below && same t (nameAt source table k))
+  other-key key is e n = rw (other-same t (nameAt source table k) (λ q. n (e .key ∙ sym (ap keyOf q) ∙ sym is))) (sym (and-false (ltb k below)))
+
+  -- Its name is the part from its start to its end.
+  pub same-part : k < below → (r : Bool) → r ≡ same t (part source (startOf table k) (endOf table k)) → r ≡ (ltb k below && same t (nameAt source table k))
+  unfolding nameAt
+  same-part h r e = rw (lt-ltb k below h) e
+
+  -- It is none of the first.
+  pub past-first : below ≤ k → false ≡ (ltb k below && same t (nameAt source table k))
+  past-first h = rw (le-ltb k below h)
+
+-- ---- the search
+
+-- What is left of it: a chain that has each of the first entries with the name.
+pub record Left (source table : List ℕ) (count below : ℕ) (t : List ℕ) (link : ℕ) : Type 0 where
+  pub within : link ≤ count
+  pub has : (k : ℕ) → k < below → nameAt source table k ≡ t → OnChain table link k
+
+module _ {source table : List ℕ} {count : ℕ} (s : Sound source table count) (below : ℕ) (t : List ℕ) where
+  -- The whole chain is left.
+  pub whole-left : below ≤ count → (bucket : ℕ) → bucket ≡ bucketOf (keyOf t) → bucket < 4096 → Left source table count below t (headOf table bucket)
+  whole-left few bucket e b =
+      record {
+        within = s .heads bucket b;
+        has = λ k h name.
+            subst (λ (x : ℕ). OnChain table (headOf table x) k) (ap (λ (u : List ℕ). bucketOf (keyOf u)) name ∙ sym e) (s .linked k (omega arith));
+      }
+
+  module _ {link : ℕ} (l : Left source table count below t link) where
+    module _ (k : ℕ) (is : link ≡ k + 1) (r : Bool) (asked : r ≡ (ltb k below && same t (nameAt source table k))) where
+      -- This entry is one of the first and has the name.
+      pub found : r ≡ true → Found source table below t k
+      found e =
+          let both = sym asked ∙ e in
+          let first = and-left (ltb k below) (same t (nameAt source table k)) both in
+          let known = ltb-true k below first in
+          let equal = same-equal t (nameAt source table k) (and-right (ltb k below) (same t (nameAt source table k)) both) in
+          let size = length-names source table below in
+          let name = names-at source table below k known ∙ sym equal in
+          record { within = omega arith; among = is-among (namesOf source table below) t k (omega arith) name ∙ sym first; name = λ h. name }
+
+      -- It is not, and the next one is asked.
+      pub one-less : r ≡ false → Left source table count below t (nextOf table k)
+      one-less e =
+          let most = l .within in
+          let next = s .entries k (omega arith) .next in
+          record {
+            within = omega arith;
+            has = λ j h name.
+                ⊎-elim
+                (λ (q : j ≡ k).
+                absurd
+                (false≢true
+                (sym e
+                ∙ asked
+                ∙ rw (lt-ltb k below (omega arith)) (ap (same t) (ap (nameAt source table) (sym q) ∙ name) ∙ same-self t))))
+                (λ on. on)
+                (chain-cases table k (l .has j h name) is);
+          }
+
+    -- None has it.
+    pub none-left : link ≡ 0 → Found source table below t below
+    none-left e =
+        let size = length-names source table below in
+        record {
+          within = omega arith;
+          among =
+              none-among (namesOf source table below) t
+              (λ k h name.
+              let known : k < below = omega arith in
+              chain-ends table (l .has k known (sym (names-at source table below k known) ∙ name)) e)
+              ∙ sym (le-ltb below below (omega arith));
+          name = λ h. absurd (omega arith);
+        }

@@ -1,0 +1,4 @@
+-- Names looked up by a hash table in one slice of words.
+pub mod Keys
+pub mod Table
+pub mod Sound

@@ -1,0 +1,106 @@
+// Names looked up by a hash table with chains, in one slice of words that the caller lends. How the words stand in it is said in specs/Table.antt.
+use source::numbers::are_same;
+use source::tokens::next_token;
+ghost use mathlib.Core.Path.{_≡_};
+ghost use mathlib.Core.Bool.{_&&_};
+ghost use mathlib.Core.List.{[], _∷_, _++_};
+ghost use Prim.Native.Nat.{_+_, _^_, _≤_, _<_};
+ghost use lib.Dec.{ltb};
+ghost use lib.ListN.{length};
+ghost use Rattle.source.specs.Numbers.{same};
+ghost use Rattle.source.specs.Tokens.{tokens, texts};
+ghost use Rattle.symbols.specs.Keys.{keyOf};
+ghost use Rattle.symbols.specs.Table.{part, entryAt, nameAt, namesOf};
+ghost use Rattle.symbols.specs.Sound.{Entry, Sound, Empty, Found};
+
+// How many chains there are.
+const HEADS: usize = 4096;
+
+// How many words an entry has.
+const ENTRY: usize = 4;
+
+// Looks a name up among the first `below` entries: the number of one that has it, or `below` where none has it.
+pub fn find(source: &[u8], table: &[u32], count: usize, below: usize, t: &[u8]) -> usize
+    requires { ⌜ Sound (now source) (now table) count × (below ≤ count) ⌝ }
+    ensures { λ r. ⌜ Found (now (source .entry)) (now (table .entry)) below (now (t .entry)) r ⌝ }
+{
+    let key = key_of(t);
+    let bucket = key as usize % HEADS;
+    let mut link = table[bucket] as usize;
+    while link != 0 {
+        let k = link - 1;
+        if is_entry(source, table, below, k, key, t) {
+            return k;
+        }
+        let at = HEADS + ENTRY * k;
+        link = table[at] as usize;
+    }
+    below
+}
+
+// Adds one more entry, for the name from start to end, as the first of its chain.
+pub fn add(source: &[u8], table: &mut [u32], count: usize, start: usize, end: usize)
+    requires { ⌜ Sound (now source) (now table) count × (start ≤ end) × (end ≤ length (now source)) × (length (now source) < 2 ^ 32) × (count + 1 < 2 ^ 32) × (entryAt (count + 1) ≤ length (now table)) ⌝ }
+    ensures { λ _. ⌜ Sound (now (source .entry)) (now (table .exit)) (count + 1) × (namesOf (now (source .entry)) (now (table .exit)) (count + 1) ≡ namesOf (now (source .entry)) (now (table .entry)) count ++ (part (now (source .entry)) start end ∷ [])) × (length (now (table .exit)) ≡ length (now (table .entry))) ⌝ }
+{
+    let key = key_of(&source[start..end]);
+    let bucket = key as usize % HEADS;
+    let head = table[bucket];
+    let at = HEADS + ENTRY * count;
+    table[at] = head;
+    table[at + 1] = key;
+    table[at + 2] = start as u32;
+    table[at + 3] = end as u32;
+    table[bucket] = (count + 1) as u32;
+}
+
+// Adds each token of a text of names to an empty table; how many there are.
+pub fn add_tokens(names: &[u8], table: &mut [u32]) -> usize
+    requires { ⌜ Empty (now table) × (entryAt (length (now names)) ≤ length (now table)) × (length (now names) < 2 ^ 32) ⌝ }
+    ensures { λ r. ⌜ Sound (now (names .entry)) (now (table .exit)) r × (namesOf (now (names .entry)) (now (table .exit)) r ≡ texts (tokens (now (names .entry)))) × (length (now (table .exit)) ≡ length (now (table .entry))) ⌝ }
+{
+    let mut p = 0;
+    let mut count = 0;
+    while p < names.len() {
+        let s = next_token(names, p);
+        let start = s.start;
+        let end = s.end;
+        if end <= start {
+            return count;
+        }
+        add(names, table, count, start, end);
+        count += 1;
+        p = end;
+    }
+    count
+}
+
+// The key of a name.
+fn key_of(t: &[u8]) -> u32
+    ensures { λ r. ⌜ r ≡ keyOf (now (t .entry)) ⌝ }
+{
+    let mut key: u64 = 0;
+    let mut i = 0;
+    while i < t.len() {
+        key = (key * 75 + t[i] as u64) % 0x1_0000_0000;
+        i += 1;
+    }
+    key as u32
+}
+
+// Whether entry k is one of the first `below` and has the name t, of which this is the key. Where the keys differ, the bytes are not compared.
+fn is_entry(source: &[u8], table: &[u32], below: usize, k: usize, key: u32, t: &[u8]) -> bool
+    requires { ⌜ Entry (now source) (now table) k × (entryAt (k + 1) ≤ length (now table)) × (key ≡ keyOf (now t)) ⌝ }
+    ensures { λ r. ⌜ r ≡ (ltb k below && same (now (t .entry)) (nameAt (now (source .entry)) (now (table .entry)) k)) ⌝ }
+{
+    let at = HEADS + ENTRY * k;
+    if table[at + 1] != key {
+        return false;
+    }
+    if k < below {
+        let start = table[at + 2] as usize;
+        let end = table[at + 3] as usize;
+        return are_same(t, &source[start..end]);
+    }
+    false
+}

@@ -1,0 +1,2 @@
+-- The C face of the lab.
+pub mod Face

@@ -5,17 +5,17 @@ use mathlib.Core.Bool.{Bool, true, false, cond, not, _&&_, _||_, false≢true}
 use mathlib.Core.List.{List, [], _∷_, _++_, append-nil, append-assoc}
 use native.Mathlib.Omega.{arith}
 use native.Mathlib.Numerals.{add-one}
-use lib.Dec.{eqb, leb, ltb}
-use lib.ListN.{length, getD, set, take, drop, replicate, length-set, length-append, length-replicate, drop-of-length-le, List·getD-eq-default}
-use lib.Seq.{take-at, set-at, append-snoc, getD-set-same, getD-set-other}
-use borrow.Author.Tests.{eqb-true, eqb-false, leb-true, ltb-true, ltb-false, not-true}
+use lib.Dec.{leb, ltb}
+use lib.ListN.{length, getD, set, take, drop, replicate, length-append, length-replicate, drop-of-length-le}
+use lib.Seq.{take-at, set-at, append-snoc}
+use borrow.Author.Tests.{leb-true, ltb-true, not-true}
 use Rattle.text.specs.Questions.{Question, Told, accepted, refused, firstNo, firstBad}
 use Rattle.text.specs.Lines.{lines, firstLine}
 use Rattle.text.specs.Ranges.{Below}
 use Rattle.text.proofs.Truth.{and-left, and-right}
 use Rattle.text.proofs.QuestionLaws.{first-yes}
 use Rattle.text.proofs.LineLaws.{lines-at}
-use Rattle.text.proofs.RangeLaws.{below-zeros}
+use Rattle.text.proofs.RangeLaws.{below-zeros, holds-after}
 use Rattle.files.specs.Sizes.{imageWords, dataWords}
 use Rattle.source.specs.Bytes.{areRightBytes}
 use Rattle.source.specs.Numbers.{number}
@@ -36,19 +36,6 @@ use Rattle.assembler.proofs.AskLaws.{Numbered, none-refused, one-refuse
 use Rattle.assembler.proofs.LabelLaws.{size-kept}
 
 -- ---- small facts
-
--- A word stored at a place keeps all below their limit.
-below-set : (limit : ℕ) (l : List ℕ) (i x : ℕ) → Below limit l → x < limit → Below limit (set l i x)
-below-set limit l i x h q k = go (eqb k i) refl (ltb i (length l)) refl
-  where
-    go : (b : Bool) → eqb k i ≡ b → (t : Bool) → ltb i (length l) ≡ t → getD (set l i x) k 0 < limit
-    go true e true t = rw (eqb-true k i e, getD-set-same l i x 0 (ltb-true i (length l) t)) q
-    go true e false t =
-        let past = ltb-false i (length l) t in
-        let zero = h (length l) in
-        let none : getD (set l i x) k 0 ≡ 0 = List·getD-eq-default (set l i x) 0 (rw (length-set l i x, eqb-true k i e) past) in
-        omega arith
-    go false e b t = rw (getD-set-other l i k x 0 (eqb-false k i e)) (h k)
 
 -- The next word after so many is stored in the place of the first zero.
 next-word : (code : List ℕ) (n x : ℕ) → length code ≡ n → n < imageWords → set (code ++ replicate (imageWords - n) 0) n x ≡ (code ++ (x ∷ [])) ++ replicate (imageWords - (n + 1)) 0
@@ -327,7 +314,7 @@ module _ {source words memory : List ℕ} {p i n m : ℕ} (d : Translating sourc
             }
           where
             below-one : (b : Bool) → Below (2 ^ 48) (cond b (set words n (s .word)) words)
-            below-one true = below-set (2 ^ 48) words n (s .word) (d .fits) (says .word-fits)
+            below-one true = holds-after words n (s .word) (λ k v. v < 2 ^ 48) (d .fits) (says .word-fits)
             below-one false = d .fits
 
             code-small : (b : Bool) → hasCode f ≡ b → n′ ≡ cond b (n + 1) n → n′ ≤ imageWords

@@ -2,3 +2,4 @@
 pub mod IoLaws
 pub mod OperationLaws
 pub mod WordLaws
+pub mod NameLaws

@@ -16,9 +16,9 @@ use Rattle.isa.specs.Word.{fieldsOf, Fitting}
 use Rattle.isa.proofs.WordLaws.{decode-fits}
 use Rattle.isa.specs.Operations.{operationName}
 use Rattle.isa.specs.Registers.{registerName}
-use Rattle.names.proofs.NameLaws.{no-operation, no-register}
+use Rattle.isa.proofs.NameLaws.{no-operation, no-register}
 use Rattle.lister.specs.Listing.{signedDecimal, separated, listedLine}
-use Rattle.lister.proofs.PieceLaws.{more, store-after}
+use Rattle.text.proofs.PieceLaws.{more, store-after}
 use Rattle.lister.proofs.ImmediateLaws.{immediate-most}
 
 -- ---- names

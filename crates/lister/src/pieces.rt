@@ -1,10 +1,11 @@
 // The pieces of a line that are names: an operation with the blank after it, and a register with the comma and the blank after it. A piece
 // is a number, so that it is laid in one store and chosen without a jump: its bytes from the lowest on, and how many they are in the highest.
+use text::hex_words::put_eight;
 ghost use mathlib.Core.Path.{_≡_};
 ghost use mathlib.Core.List.{_++_};
 ghost use Prim.Native.Nat.{_+_, _*_, _/_, _^_, _≤_, _<_};
 ghost use lib.ListN.{length, getD};
-ghost use Rattle.text.specs.Bytes.{bytes as text};
+ghost use Rattle.text.specs.Bytes.{bytes as quoted};
 ghost use Rattle.text.specs.Numerals.{lowBytes};
 ghost use Rattle.text.specs.Place.{put};
 ghost use Rattle.isa.specs.Operations.{operationName};
@@ -12,7 +13,7 @@ ghost use Rattle.isa.specs.Registers.{registerName};
 
 // The piece of an operation; a number that names none has the blank alone.
 pub fn operation_piece(n: u32) -> u64
-    ensures { λ r. ⌜ lowBytes (r / 2 ^ 56) r ≡ operationName n ++ text " " ⌝ }
+    ensures { λ r. ⌜ lowBytes (r / 2 ^ 56) r ≡ operationName n ++ quoted " " ⌝ }
 {
     match n {
         0 => piece(b"add    ", 4),
@@ -43,7 +44,7 @@ pub fn operation_piece(n: u32) -> u64
 
 // The piece of an R register; a number that names none has the comma and the blank alone.
 pub fn register_piece(n: usize) -> u64
-    ensures { λ r. ⌜ lowBytes (r / 2 ^ 56) r ≡ registerName n ++ text ", " ⌝ }
+    ensures { λ r. ⌜ lowBytes (r / 2 ^ 56) r ≡ registerName n ++ quoted ", " ⌝ }
 {
     match n {
         0 => piece(b"$zero, ", 7),
@@ -81,26 +82,6 @@ pub fn put_piece(out: &mut [u8], at: usize, piece: u64) -> usize
 {
     put_eight(out, at, piece);
     at + piece_length(piece)
-}
-
-// Lays the eight bytes of a number at a place, the lowest first: they become one store.
-fn put_eight(out: &mut [u8], at: usize, v: u64)
-    requires { ⌜ at + 8 ≤ length (now out) ⌝ }
-    ensures { λ _. ⌜ now (out .exit) ≡ put (now (out .entry)) at (lowBytes 8 v) ⌝ }
-{
-    put_two(out, at, v);
-    put_two(out, at + 2, v / 0x1_0000);
-    put_two(out, at + 4, v / 0x1_0000_0000);
-    put_two(out, at + 6, v / 0x1_0000_0000_0000);
-}
-
-// Lays the two low bytes of a number at a place, the lowest first.
-fn put_two(out: &mut [u8], at: usize, v: u64)
-    requires { ⌜ at + 2 ≤ length (now out) ⌝ }
-    ensures { λ _. ⌜ now (out .exit) ≡ put (now (out .entry)) at (lowBytes 2 v) ⌝ }
-{
-    out[at] = (v % 256) as u8;
-    out[at + 1] = (v / 256 % 256) as u8;
 }
 
 // The piece that has the first `count` of these bytes.

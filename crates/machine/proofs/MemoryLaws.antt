@@ -8,7 +8,7 @@ use lib.ListN.{length, set, length-set}
 use lib.Seq.{sets, length-sets}
 use Rattle.text.specs.Place.{put}
 use Rattle.text.specs.Ranges.{Below}
-use Rattle.text.proofs.RangeLaws.{below-part}
+use Rattle.text.proofs.RangeLaws.{below-part, holds-after}
 use Rattle.isa.specs.Word.{fieldsOf}
 use Rattle.isa.specs.Operations.{Operation, operationOf, calculate, branch, jal, lw, sw, reti, input, output, halt, unknown}
 use Rattle.isa.specs.Registers.{isListed, ioBits, diskcmd, diskstatus, diskbuffer, disksector, monitorcmd, monitoraddr, monitordata}
@@ -21,7 +21,6 @@ use Rattle.machine.specs.Execution.{fetched, operandsOf, address, isFree
 use Rattle.machine.specs.Cycle.{timerStepped, diskStepped, counted, atFetch, stepped}
 use Rattle.machine.specs.Soundness.{Sound}
 use Rattle.words.proofs.FitLaws.{wrapped}
-use Rattle.machine.proofs.SoundParts.{holds-after}
 use Rattle.machine.proofs.SoundLaws.{sound-at-fetch}
 use Rattle.machine.proofs.Choice.{either}
 

@@ -24,7 +24,8 @@ use Rattle.machine.specs.Execution.{fetched, operandsOf, address, isFree
 use Rattle.machine.specs.Cycle.{acceptsAtFetch, atFetch, timerStepped, diskStepped, counted, stepped}
 use Rattle.machine.specs.Soundness.{keptBits, SoundTo, Sound}
 use Rattle.words.proofs.FitLaws.{wrapped, calculated-lt}
-use Rattle.machine.proofs.SoundParts.{holds-after, sound-io, sound-core, sound-set, sound-core-to, kept-le, sign-lt}
+use Rattle.text.proofs.RangeLaws.{holds-after}
+use Rattle.machine.proofs.SoundParts.{sound-io, sound-core, sound-set, sound-core-to, kept-le, sign-lt}
 use Rattle.machine.proofs.DiskLaws.{command-free, left-at-fetch, left-kept, accepted-left, busy-left}
 use Rattle.machine.proofs.Choice.{either}
 

@@ -10,6 +10,7 @@ use lib.Dec.{eqb, leb, ltb}
 use lib.Seq.{getD-set-same, getD-set-other, set-out}
 use borrow.Author.Tests.{eqb-true, eqb-false, leb-true, leb-false, ltb-true, ltb-false}
 use Rattle.text.proofs.Truth.{below}
+use Rattle.text.proofs.RangeLaws.{holds-after}
 use Rattle.isa.specs.Registers.{ioBits, diskcmd, diskstatus, monitorcmd}
 use Rattle.isa.specs.Word.{signExtended}
 use Rattle.isa.proofs.IoLaws.{no-bits-above}
@@ -18,16 +19,6 @@ use Rattle.machine.specs.State.{registers}
 use Rattle.machine.specs.Soundness.{keptBits, SoundCore, SoundTo}
 
 -- ---- one I/O register set
-
-module _ (io : List ℕ) (n x : ℕ) where
-  -- What an I/O register holds after a store: x at n, as before elsewhere.
-  pub holds-after : (P : ℕ → ℕ → Type 0) → ((k : ℕ) → P k (getD io k 0)) → P n x → (k : ℕ) → P k (getD (set io n x) k 0)
-  holds-after P old new k = go (eqb k n) refl (ltb n (length io)) refl
-    where
-      go : (t : Bool) → eqb k n ≡ t → (u : Bool) → ltb n (length io) ≡ u → P k (getD (set io n x) k 0)
-      go false e u r = rw (getD-set-other io n k x 0 (eqb-false k n e)) (old k)
-      go true e true r = rw (eqb-true k n e, getD-set-same io n x 0 (ltb-true n (length io) r)) new
-      go true e false r = rw (set-out io n x (ltb-false n (length io) r)) (old k)
 
 module _ (limit : ℕ) (c : Core) (regs io : List ℕ) (s : SoundTo limit c regs io) where
   -- A register that is not the disk's takes a value that fits.

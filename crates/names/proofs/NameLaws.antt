@@ -5,25 +5,16 @@ use mathlib.Core.Bool.{Bool, true, false}
 use mathlib.Core.List.{List, []}
 use native.Mathlib.Nat.{add-zero}
 use native.Mathlib.Omega.{arith}
-use lib.ListN.{length, List·getD-eq-default}
+use lib.ListN.{length}
 use lib.Dec.{eqb}
 use borrow.Author.Tests.{eqb-true, eqb-false}
 use Rattle.text.specs.Place.{put}
 use Rattle.text.proofs.PutLaws.{put-nil}
-use Rattle.isa.specs.Operations.{operationNames, operationName}
-use Rattle.isa.specs.Registers.{registerNames, registerName, ioName}
+use Rattle.isa.specs.Registers.{ioName}
 
 -- Nothing is laid of an empty name.
 pub nothing-laid : (out : List ℕ) (at : ℕ) (name : List ℕ) → name ≡ [] → (out ≡ put out at name) × (at ≡ at + length name)
 nothing-laid out at name e = rw e (sym (put-nil out at), sym (add-zero at))
-
-pub no-operation : (n : ℕ) → 22 ≤ n → operationName n ≡ []
-unfolding operationName
-no-operation n h = List·getD-eq-default operationNames [] h
-
-pub no-register : (n : ℕ) → 16 ≤ n → registerName n ≡ []
-unfolding registerName
-no-register n h = List·getD-eq-default registerNames [] h
 
 pub no-io-between : (n : ℕ) → 18 ≤ n → n < 20 → ioName n ≡ []
 unfolding ioName

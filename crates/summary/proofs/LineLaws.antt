@@ -10,7 +10,7 @@ use Rattle.text.specs.Lines.{LF}
 use Rattle.text.specs.Place.{put}
 use Rattle.text.proofs.DecimalLaws.{length-decimal, count-le}
 use Rattle.trace.specs.LogLines.{field}
-use Rattle.trace.proofs.PieceLaws.{more, after-store}
+use Rattle.text.proofs.PieceLaws.{more, after-store}
 use Rattle.summary.specs.Milliseconds.{milliseconds}
 use Rattle.summary.specs.ClosingLines.{lineE, lineN}
 use Rattle.summary.proofs.TimeLaws.{half-a-step}

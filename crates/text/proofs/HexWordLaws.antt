@@ -13,13 +13,13 @@ use Rattle.text.proofs.DigitLaws.{digit-lt, digits-split, digits-low}
 -- ---- the low bytes of a number
 
 -- As many as are asked for.
-length-low : (k v : ℕ) → length (lowBytes k v) ≡ k
+pub length-low : (k v : ℕ) → length (lowBytes k v) ≡ k
 unfolding lowBytes
 length-low zero v = refl
 length-low (suc k) v = ap suc (length-low k (v / 256))
 
 -- The low bytes in two parts.
-low-split : (j k v : ℕ) → lowBytes (j + k) v ≡ lowBytes j v ++ lowBytes k (v / 256 ^ j)
+pub low-split : (j k v : ℕ) → lowBytes (j + k) v ≡ lowBytes j v ++ lowBytes k (v / 256 ^ j)
 unfolding lowBytes
 low-split zero k v = rw (zero-add, pow-zero, div-one)
 low-split (suc j) k v = rw (suc-add, lowBytes, low-split j k (v / 256), div-div-eq-div-mul, pow-succ')

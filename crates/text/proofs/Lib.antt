@@ -2,6 +2,7 @@
 pub mod Truth
 pub mod QuestionLaws
 pub mod PutLaws
+pub mod PieceLaws
 pub mod RangeLaws
 pub mod CopyLaws
 pub mod DigitLaws

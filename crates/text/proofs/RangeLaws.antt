@@ -1,11 +1,14 @@
--- Lists whose numbers are below a limit. Assumes nothing.
+-- Lists whose numbers are below a limit, or hold what a rule says. Assumes nothing.
 use Prim.Native.Nat.{ℕ, zero, suc, _+_, _%_, _<_}
 use mathlib.Core.Path.{_≡_, refl}
+use mathlib.Core.Bool.{Bool, true, false}
 use mathlib.Core.List.{List, [], _∷_, _++_, map}
 use native.Mathlib.Nat.{mod-eq-of-lt}
 use native.Mathlib.Omega.{arith}
-use lib.ListN.{getD, take, drop, replicate}
-use lib.Seq.{getD-drop}
+use lib.Dec.{eqb, ltb}
+use lib.ListN.{length, getD, set, take, drop, replicate}
+use lib.Seq.{getD-drop, getD-set-same, getD-set-other, set-out}
+use borrow.Author.Tests.{eqb-true, eqb-false, ltb-true, ltb-false}
 use Rattle.text.specs.Ranges.{Below}
 
 pub below-append : (limit : ℕ) (a b : List ℕ) → Below limit a → Below limit b → Below limit (a ++ b)
@@ -32,3 +35,13 @@ below-part limit k from l h = below-take limit k (drop from l) (λ n. rw (getD-d
 pub below-mod : (limit : ℕ) (l : List ℕ) → Below limit l → map (λ word. word % limit) l ≡ l
 below-mod limit [] h = refl
 below-mod limit (w ∷ ws) h = rw (mod-eq-of-lt (h 0), below-mod limit ws (λ n. h (suc n)))
+
+module _ (l : List ℕ) (n x : ℕ) where
+  -- What each place of a list holds after a store: x at n, as before elsewhere.
+  pub holds-after : (P : ℕ → ℕ → Type 0) → ((k : ℕ) → P k (getD l k 0)) → P n x → (k : ℕ) → P k (getD (set l n x) k 0)
+  holds-after P old new k = go (eqb k n) refl (ltb n (length l)) refl
+    where
+      go : (t : Bool) → eqb k n ≡ t → (u : Bool) → ltb n (length l) ≡ u → P k (getD (set l n x) k 0)
+      go false e u r = rw (getD-set-other l n k x 0 (eqb-false k n e)) (old k)
+      go true e true r = rw (eqb-true k n e, getD-set-same l n x 0 (ltb-true n (length l) r)) new
+      go true e false r = rw (set-out l n x (ltb-false n (length l) r)) (old k)

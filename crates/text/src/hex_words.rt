@@ -114,7 +114,7 @@ fn join(a: u64, b: u64, c: u64, d: u64) -> u64
 }
 
 // Lays the eight bytes of a number at a place, the lowest first: they become one store.
-fn put_eight(out: &mut [u8], at: usize, v: u64)
+pub fn put_eight(out: &mut [u8], at: usize, v: u64)
     requires { ⌜ at + 8 ≤ length (now out) ⌝ }
     ensures { λ _. ⌜ now (out .exit) ≡ put (now (out .entry)) at (lowBytes 8 v) ⌝ }
 {

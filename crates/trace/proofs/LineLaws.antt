@@ -13,7 +13,7 @@ use Rattle.text.proofs.DigitLaws.{length-digits, digits-split, digits-low}
 use Rattle.text.proofs.DecimalLaws.{length-decimal}
 use Rattle.isa.specs.Registers.{ioName}
 use Rattle.trace.specs.LogLines.{field, registerFields, registersText, frontT, lineT, lineH, lineLD}
-use Rattle.trace.proofs.PieceLaws.{more, after-store}
+use Rattle.text.proofs.PieceLaws.{more, after-store}
 
 -- ---- T
 

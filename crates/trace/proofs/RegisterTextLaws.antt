@@ -14,7 +14,7 @@ use Rattle.text.specs.Place.{put}
 use Rattle.text.proofs.DigitLaws.{length-digits}
 use Rattle.text.proofs.PutLaws.{put-one, put-front, put-all}
 use Rattle.trace.specs.LogLines.{field, registerFields, registersText}
-use Rattle.trace.proofs.PieceLaws.{more}
+use Rattle.text.proofs.PieceLaws.{more}
 use Rattle.trace.proofs.LengthLaws.{length-fields}
 
 -- ---- a text that is written over

@@ -5,7 +5,7 @@ use lib.ListN.{length-set}
 use borrow.Author.Needs.{needs}
 use Rattle.text.specs.Place.{put}
 use Rattle.words.proofs.WordLaws.{reads as held}
-use Rattle.lister.proofs.PieceLaws.{after-store}
+use Rattle.text.proofs.PieceLaws.{after-store}
 use Rattle.lister.proofs.ImmediateLaws.{small, negative-text, plain-text, negative-length, plain-length}
 use Rattle.lister.proofs.immediates.put_immediate.Statement.{statement}
 use Rattle.lister.proofs.immediates.put_immediate.Tie as tie

@@ -4,7 +4,7 @@ use native.Mathlib.Omega.{arith}
 use lib.ListN.{length-set}
 use borrow.Author.Needs.{needs}
 use Rattle.text.proofs.PutLaws.{put-one}
-use Rattle.lister.proofs.PieceLaws.{after-store}
+use Rattle.text.proofs.PieceLaws.{after-store}
 use Rattle.lister.proofs.line.put_comma.Statement.{statement}
 use Rattle.lister.proofs.line.put_comma.Tie as tie
 

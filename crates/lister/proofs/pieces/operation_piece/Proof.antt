@@ -4,7 +4,7 @@ use borrow.Author.Needs.{needs}
 use Rattle.text.proofs.Truth.{past}
 use Rattle.text.specs.Numerals.{lowBytes}
 use Rattle.isa.specs.Operations.{operationName}
-use Rattle.names.proofs.NameLaws.{no-operation}
+use Rattle.isa.proofs.NameLaws.{no-operation}
 use Rattle.lister.proofs.pieces.operation_piece.Statement.{statement}
 use Rattle.lister.proofs.pieces.operation_piece.Tie as tie
 

@@ -4,7 +4,7 @@ use borrow.Author.Needs.{needs}
 use Rattle.text.proofs.Truth.{past}
 use Rattle.text.specs.Numerals.{lowBytes}
 use Rattle.isa.specs.Registers.{registerName}
-use Rattle.names.proofs.NameLaws.{no-register}
+use Rattle.isa.proofs.NameLaws.{no-register}
 use Rattle.lister.proofs.pieces.register_piece.Statement.{statement}
 use Rattle.lister.proofs.pieces.register_piece.Tie as tie
 

@@ -7,7 +7,7 @@ use Rattle.text.specs.Place.{put}
 use Rattle.executor.proofs.RegisterLaws.{kept-length}
 use Rattle.trace.specs.LogLines.{lineT}
 use Rattle.trace.proofs.LengthLaws.{length-T}
-use Rattle.trace.proofs.PieceLaws.{more}
+use Rattle.text.proofs.PieceLaws.{more}
 use Rattle.simulator.proofs.OperandLaws.{line-of}
 use Rattle.simulator.proofs.cycle.put_lines.Statement.{statement}
 use Rattle.simulator.proofs.cycle.put_lines.Tie as tie

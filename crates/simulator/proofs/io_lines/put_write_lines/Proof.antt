@@ -5,7 +5,7 @@ use lib.ListN.{length-append}
 use borrow.Author.Needs.{needs}
 use Rattle.text.proofs.PutLaws.{put-nil}
 use Rattle.machine.specs.Log.{ioLines}
-use Rattle.trace.proofs.PieceLaws.{more}
+use Rattle.text.proofs.PieceLaws.{more}
 use Rattle.simulator.proofs.io_lines.put_write_lines.Statement.{statement}
 use Rattle.simulator.proofs.io_lines.put_write_lines.Tie as tie
 

@@ -2,7 +2,7 @@
 use native.Mathlib.Omega.{arith}
 use borrow.Author.Needs.{needs}
 use Rattle.text.proofs.DecimalLaws.{length-decimal}
-use Rattle.trace.proofs.PieceLaws.{store-after}
+use Rattle.text.proofs.PieceLaws.{store-after}
 use Rattle.summary.proofs.fields.put_last_number.Statement.{statement}
 use Rattle.summary.proofs.fields.put_last_number.Tie as tie
 

@@ -4,7 +4,7 @@ use borrow.Author.Needs.{needs}
 use Rattle.text.specs.Numerals.{digits}
 use Rattle.text.proofs.DigitLaws.{length-digits}
 use Rattle.trace.specs.LogLines.{field}
-use Rattle.trace.proofs.PieceLaws.{store-after}
+use Rattle.text.proofs.PieceLaws.{store-after}
 use Rattle.trace.proofs.fields.put_last_word.Statement.{statement}
 use Rattle.trace.proofs.fields.put_last_word.Tie as tie
 

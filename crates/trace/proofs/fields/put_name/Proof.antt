@@ -2,7 +2,7 @@
 use mathlib.Core.Path.{refl, _∙_}
 use lib.ListN.{length-set}
 use borrow.Author.Needs.{needs}
-use Rattle.trace.proofs.PieceLaws.{after-store}
+use Rattle.text.proofs.PieceLaws.{after-store}
 use Rattle.trace.proofs.fields.put_name.Statement.{statement}
 use Rattle.trace.proofs.fields.put_name.Tie as tie
 

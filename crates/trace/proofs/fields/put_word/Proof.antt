@@ -3,7 +3,7 @@ use mathlib.Core.Path.{refl, _∙_}
 use native.Mathlib.Omega.{arith}
 use lib.ListN.{length-set}
 use borrow.Author.Needs.{needs}
-use Rattle.trace.proofs.PieceLaws.{after-store}
+use Rattle.text.proofs.PieceLaws.{after-store}
 use Rattle.trace.proofs.fields.put_word.Statement.{statement}
 use Rattle.trace.proofs.fields.put_word.Tie as tie
 

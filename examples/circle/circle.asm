@@ -31,6 +31,6 @@ next:   add  $t1, $t1, $imm1, $zero, 1, 0          # dx = dx + 1
         ble  $zero, $t1, $s0, $imm1, pixel, 0      # if dx <= r goto pixel
         add  $t0, $t0, $imm1, $zero, 1, 0          # dy = dy + 1
         ble  $zero, $t0, $s0, $imm1, line, 0       # if dy <= r goto line
-        halt $zero, $zero, $zero, $zero, 0, 0
+        halt $zero, $zero, $zero, $zero, 0, 0      # the end
 
         .word 0x100 5                              # the radius

@@ -28,40 +28,40 @@ term:   mac  $t0, $s0, $imm1, $s2, 4, 0            # $t0 = 4*i + k
         blt  $zero, $s1, $imm1, $imm2, 4, column   # if j < 4 goto column
         add  $s0, $s0, $imm1, $zero, 1, 0          # i = i + 1
         blt  $zero, $s0, $imm1, $imm2, 4, row      # if i < 4 goto row
-        halt $zero, $zero, $zero, $zero, 0, 0
+        halt $zero, $zero, $zero, $zero, 0, 0      # the end
 
 # A: the numbers 1 to 16
-        .word 0x100 1
+        .word 0x100 1                              # row 0
         .word 0x101 2
         .word 0x102 3
         .word 0x103 4
-        .word 0x104 5
+        .word 0x104 5                              # row 1
         .word 0x105 6
         .word 0x106 7
         .word 0x107 8
-        .word 0x108 9
+        .word 0x108 9                              # row 2
         .word 0x109 10
         .word 0x10A 11
         .word 0x10B 12
-        .word 0x10C 13
+        .word 0x10C 13                             # row 3
         .word 0x10D 14
         .word 0x10E 15
         .word 0x10F 16
 
 # B: some numbers below zero too; data may be decimal, negative or hexadecimal
-        .word 0x110 2
+        .word 0x110 2                              # row 0
         .word 0x111 -1
         .word 0x112 0
         .word 0x113 7
-        .word 0x114 -3
+        .word 0x114 -3                             # row 1
         .word 0x115 4
         .word 0x116 1
         .word 0x117 0
-        .word 0x118 0x64
+        .word 0x118 0x64                           # row 2
         .word 0x119 -100
         .word 0x11A 5
         .word 0x11B 0xFFFFFFFF                     # the same word as -1
-        .word 0x11C 0
+        .word 0x11C 0                              # row 3
         .word 0x11D 6
         .word 0x11E -2
         .word 0x11F 1000

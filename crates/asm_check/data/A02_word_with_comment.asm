@@ -1,0 +1,2 @@
+# or stand
+.word 1 2 # two

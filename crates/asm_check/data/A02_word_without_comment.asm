@@ -1,0 +1,2 @@
+# the comment of a .word may be missing
+.word 1 2

@@ -1,0 +1,2 @@
+# no label before .word
+L: .word 1 2

@@ -1,0 +1,2 @@
+# no two labels on a line
+L: M:

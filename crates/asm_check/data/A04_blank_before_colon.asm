@@ -1,0 +1,2 @@
+# no blank before the colon
+L :

@@ -1,0 +1,2 @@
+# none is needed after it
+L:add $v0, $a0, $a1, $a2, 1, 2

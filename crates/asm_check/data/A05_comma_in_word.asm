@@ -1,0 +1,2 @@
+# a comma is no blank
+.word 1,2

@@ -1,0 +1,2 @@
+# a CR is a blank
+add$v0, $a0, $a1, $a2, 1, 2

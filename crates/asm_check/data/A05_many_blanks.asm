@@ -1,0 +1,2 @@
+# many blanks around tokens
+ 	 add  	 $v0 ,	$a0, $a1 ,$a2 , 1 , 2 	

@@ -1,0 +1,2 @@
+# a blank must stand after the address
+.word 12

@@ -1,0 +1,2 @@
+# a blank must stand after .word
+.word1 2

@@ -1,0 +1,2 @@
+# a comment right after the data
+.word 1 2#c

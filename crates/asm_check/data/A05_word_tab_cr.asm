@@ -1,0 +1,2 @@
+# any blank will do
+.word	12

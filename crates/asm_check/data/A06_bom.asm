@@ -1,0 +1,2 @@
+﻿# a byte order mark
+add $v0, $a0, $a1, $a2, 1, 2

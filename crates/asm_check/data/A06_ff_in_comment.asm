@@ -1,0 +1,2 @@
+# the byte 12 in a comment
+add $v0, $a0, $a1, $a2, 1, 2 # 

@@ -1,0 +1,2 @@
+# eight digits at most
+.word 1 0x123456789

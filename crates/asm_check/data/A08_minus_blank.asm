@@ -1,0 +1,2 @@
+# no blank after the minus
+.word 1 - 1

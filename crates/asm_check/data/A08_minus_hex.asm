@@ -1,0 +1,2 @@
+# no sign before 0x
+.word 1 -0x1

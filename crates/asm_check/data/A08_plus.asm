@@ -1,0 +1,2 @@
+# no plus
+.word 1 +1

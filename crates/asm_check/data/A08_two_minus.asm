@@ -1,0 +1,2 @@
+# one minus
+.word 1 --1

@@ -1,0 +1,2 @@
+# a label of 51 letters
+aaaaaaaaaaaaaaaaaaaaaaaaaaaaaaaaaaaaaaaaaaaaaaaaaaa:

@@ -1,0 +1,2 @@
+# eight digits at most
+add $v0, $a0, $a1, $a2, 0x000000001, 2

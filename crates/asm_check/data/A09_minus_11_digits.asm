@@ -1,0 +1,2 @@
+# ten digits at most
+.word 1 -00000000001

@@ -1,0 +1,2 @@
+# of 50 letters
+aaaaaaaaaaaaaaaaaaaaaaaaaaaaaaaaaaaaaaaaaaaaaaaaaa $v0, $a0, $a1, $a2, 1, 2

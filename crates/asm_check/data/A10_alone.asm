@@ -1,0 +1,2 @@
+# alone on its line
+foo

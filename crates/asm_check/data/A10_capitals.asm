@@ -1,0 +1,2 @@
+# in capitals
+ADD $v0, $a0, $a1, $a2, 1, 2

@@ -1,0 +1,2 @@
+# that begins with a digit
+9add $v0, $a0, $a1, $a2, 1, 2

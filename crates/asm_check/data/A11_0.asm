@@ -1,0 +1,2 @@
+# registers have names, not numbers
+add $0, $a0, $a1, $a2, 1, 2

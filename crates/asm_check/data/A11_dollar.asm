@@ -1,0 +1,2 @@
+# but one letter or digit
+add $, $a0, $a1, $a2, 1, 2

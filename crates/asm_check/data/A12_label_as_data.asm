@@ -1,0 +1,3 @@
+# no label in a .word
+L:
+.word 1 L

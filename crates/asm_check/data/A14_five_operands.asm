@@ -1,0 +1,2 @@
+# all six operands must stand
+halt $zero, $zero, $zero, $zero, 0

@@ -1,0 +1,2 @@
+# all six operands must stand
+halt

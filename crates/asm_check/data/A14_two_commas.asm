@@ -1,0 +1,2 @@
+# one comma between
+halt $zero,, $zero, $zero, $zero, 0, 0

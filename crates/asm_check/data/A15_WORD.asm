@@ -1,0 +1,2 @@
+# .WORD is neither .word nor an op
+.WORD 1 2

@@ -1,0 +1,2 @@
+# an address above 4095
+.word 4096 0

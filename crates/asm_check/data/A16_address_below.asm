@@ -1,0 +1,2 @@
+# an address below 0
+.word -1 0

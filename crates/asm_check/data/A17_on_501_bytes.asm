@@ -1,0 +1,3 @@
+# a line of 501 bytes defines none
+add $v0, $a0, $a1, $a2, L, 0
+L:                                                                                                                                                                                                                                                                                                                                                                                                                                                                                                                   

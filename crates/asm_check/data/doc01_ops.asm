@@ -1,0 +1,23 @@
+# the opcodes in their order, from 0
+add  $zero, $zero, $zero, $zero, 0, 0  # 0
+sub  $zero, $zero, $zero, $zero, 0, 1  # 1
+mac  $zero, $zero, $zero, $zero, 0, 2  # 2
+and  $zero, $zero, $zero, $zero, 0, 3  # 3
+or   $zero, $zero, $zero, $zero, 0, 4  # 4
+xor  $zero, $zero, $zero, $zero, 0, 5  # 5
+sll  $zero, $zero, $zero, $zero, 0, 6  # 6
+sra  $zero, $zero, $zero, $zero, 0, 7  # 7
+srl  $zero, $zero, $zero, $zero, 0, 8  # 8
+beq  $zero, $zero, $zero, $zero, 0, 9  # 9
+bne  $zero, $zero, $zero, $zero, 0, 10  # 10
+blt  $zero, $zero, $zero, $zero, 0, 11  # 11
+bgt  $zero, $zero, $zero, $zero, 0, 12  # 12
+ble  $zero, $zero, $zero, $zero, 0, 13  # 13
+bge  $zero, $zero, $zero, $zero, 0, 14  # 14
+jal  $zero, $zero, $zero, $zero, 0, 15  # 15
+lw   $zero, $zero, $zero, $zero, 0, 16  # 16
+sw   $zero, $zero, $zero, $zero, 0, 17  # 17
+reti $zero, $zero, $zero, $zero, 0, 18  # 18
+in   $zero, $zero, $zero, $zero, 0, 19  # 19
+out  $zero, $zero, $zero, $zero, 0, 20  # 20
+halt $zero, $zero, $zero, $zero, 0, 21  # 21

@@ -1,0 +1,2 @@
+# questions 2 and 3 of one line
+foo 

@@ -1,0 +1,3 @@
+# the first bad line decides, whatever its number
+foo
+# 

@@ -1,0 +1,73 @@
+// Words of a memory.
+ghost use Prim.Native.Nat.{_≤_, _<_};
+ghost use lib.ListN.{length};
+ghost use Rattle.io.specs.Counts.{Counts};
+
+// Whether every word is this one.
+pub fn are_all(words: &[u32], word: u32) -> bool {
+    let mut i = 0;
+    while i < words.len() {
+        if words[i] != word {
+            return false;
+        }
+        i += 1;
+    }
+    true
+}
+
+// Whether every word of an image is this one.
+pub fn are_all_long(words: &[u64], word: u64) -> bool {
+    let mut i = 0;
+    while i < words.len() {
+        if words[i] != word {
+            return false;
+        }
+        i += 1;
+    }
+    true
+}
+
+// Whether two images have the same words.
+pub fn are_same(a: &[u64], b: &[u64]) -> bool {
+    if a.len() != b.len() {
+        return false;
+    }
+    let mut i = 0;
+    while i < a.len() {
+        if a[i] != b[i] {
+            return false;
+        }
+        i += 1;
+    }
+    true
+}
+
+// How many words there are up to the last that is not zero.
+pub fn used_words(words: &[u64]) -> usize
+    ensures { λ r. ⌜ Counts r (now (words .entry)) ⌝ }
+{
+    let mut n = words.len();
+    while 0 < n {
+        if words[n - 1] != 0 {
+            return n;
+        }
+        n -= 1;
+    }
+    0
+}
+
+// The place after the words that follow the one at i and equal it.
+pub fn row_end(words: &[u64], i: usize) -> usize
+    requires { ⌜ i < length (now words) ⌝ }
+    ensures { λ r. ⌜ (i < r) × (r ≤ length (now (words .entry))) ⌝ }
+{
+    let word = words[i];
+    let mut end = i + 1;
+    while end < words.len() {
+        if words[end] != word {
+            return end;
+        }
+        end += 1;
+    }
+    end
+}

@@ -33,7 +33,7 @@ pub record LabelTable (source : List ℕ) (ls : List (List ℕ)) (table values :
 
 -- The words of a table that has room for every label: a line that defines one has three bytes with its LF, but for the last.
 abbrev pub tableWords : ℕ
-tableWords = 4096 + 4 * 87382
+tableWords = 8192 + 4 * 87382
 
 -- A line from p to e of a text, and n instructions and m labels before it, is noted in a table of labels and their values.
 pub record LabelNoted (source : List ℕ) (p e : ℕ) (f : Form) (table values : List ℕ) (n m r : ℕ) (tableAfter valuesAfter : List ℕ) : Type 0 where

@@ -61,11 +61,11 @@ fn pass_twice(source: &[u8], words: &mut [u64], memory: &mut [u32]) -> Refusal
     ensures { λ r. ⌜ Translated (now (source .entry)) r (now (words .exit)) (now (memory .exit)) ⌝ }
 {
     let names = NAMES;
-    let mut name_table = [0u32; 4716];
+    let mut name_table = [0u32; 8812];
     add_names(&names, &mut name_table);
     let digits = digit_values();
     let mut places = [0usize; 28];
-    let mut table = [0u32; 353624];
+    let mut table = [0u32; 357720];
     let mut values = [0u32; 1024];
     let count = find_labels(source, &mut table, &mut values, &mut places, &digits);
     translate(

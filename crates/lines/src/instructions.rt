@@ -25,11 +25,11 @@ const OPERATIONS: usize = 22;
 const ALL: usize = 38;
 
 // The words of a table that has room for them.
-pub const NAME_WORDS: usize = 4096 + 4 * 155;
+pub const NAME_WORDS: usize = 8192 + 4 * 155;
 
 // Fills an empty table with all names.
 pub fn add_names(names: &[u8; 155], table: &mut [u32])
-    requires { ⌜ (now names ≡ bytes "add sub mac and or xor sll sra srl beq bne blt bgt ble bge jal lw sw reti in out halt $zero $imm1 $imm2 $v0 $a0 $a1 $a2 $t0 $t1 $t2 $s0 $s1 $s2 $gp $sp $ra") × Empty (now table) × (4096 + 4 * 155 ≤ length (now table)) ⌝ }
+    requires { ⌜ (now names ≡ bytes "add sub mac and or xor sll sra srl beq bne blt bgt ble bge jal lw sw reti in out halt $zero $imm1 $imm2 $v0 $a0 $a1 $a2 $t0 $t1 $t2 $s0 $s1 $s2 $gp $sp $ra") × Empty (now table) × (8192 + 4 * 155 ≤ length (now table)) ⌝ }
     ensures { λ _. ⌜ NameTable (now (names .entry)) (now (table .exit)) ⌝ }
 {
     add_tokens(names, table);

@@ -3,16 +3,18 @@ use Prim.Native.Nat.{ℕ, _+_, _≤_, _<_}
 use mathlib.Core.Path.{_≡_, sym, _∙_, ap, subst}
 use mathlib.Core.Logic.{_⊎_, inl, inr, ⊎-elim}
 use mathlib.Core.Bool.{Bool, true, false, _&&_, and-false, false≢true}
-use mathlib.Core.List.{List}
+use mathlib.Core.List.{List, []}
 use native.Mathlib.Omega.{arith}
 use lib.Dec.{ltb}
+use lib.ListN.{getD}
 use borrow.Author.Tests.{ltb-true, lt-ltb, le-ltb}
 use Rattle.text.proofs.Truth.{and-left, and-right}
 use Rattle.source.specs.Numbers.{same}
-use Rattle.symbols.specs.Keys.{keyOf, bucketOf}
+use Rattle.source.specs.Lookup.{isAmong}
+use Rattle.symbols.specs.Keys.{keyOf, buckets, bucketOf}
 use Rattle.symbols.specs.Table.{headOf, nextOf, keyAt, part, startOf, endOf, nameAt, namesOf, OnChain}
 use Rattle.symbols.specs.Table.OnChain.{here, there}
-use Rattle.symbols.specs.Sound.{Entry, Sound, Found}
+use Rattle.symbols.specs.Sound.{Entry, Reached, Sound, Found}
 use Rattle.symbols.proofs.LookupLaws.{same-self, same-equal, other-same, is-among, none-among}
 use Rattle.symbols.proofs.NameLaws.{length-names, names-at}
 
@@ -46,53 +48,72 @@ module _ (source table : List ℕ) (below k : ℕ) (t : List ℕ) where
   pub past-first : below ≤ k → false ≡ (ltb k below && same t (nameAt source table k))
   past-first h = rw (le-ltb k below h)
 
+  -- It was asked whether it is one of the first and has the name, and it is and has: ..
+  module _ (r : Bool) (asked : r ≡ (ltb k below && same t (nameAt source table k))) (e : r ≡ true) where
+    is-first : ltb k below ≡ true
+    is-first = and-left (ltb k below) (same t (nameAt source table k)) (sym asked ∙ e)
+
+    has-name : getD (namesOf source table below) k [] ≡ t
+    has-name =
+        names-at source table below k (ltb-true k below is-first)
+        ∙ sym (same-equal t (nameAt source table k) (and-right (ltb k below) (same t (nameAt source table k)) (sym asked ∙ e)))
+
+    -- .. the name is one of theirs, ..
+    pub name-among : isAmong (namesOf source table below) t ≡ true
+    name-among =
+        let size = length-names source table below in
+        let known = ltb-true k below is-first in
+        is-among (namesOf source table below) t k (omega arith) has-name
+
+    -- .. and this is the answer.
+    pub found : Found source table below t k
+    found = let known = ltb-true k below is-first in record { within = omega arith; among = name-among ∙ sym is-first; name = λ h. has-name }
+
 -- ---- the search
 
--- What is left of it: a chain that has each of the first entries with the name.
+-- What is left of it: a chain on which the name is, where one of the first entries has it.
 pub record Left (source table : List ℕ) (count below : ℕ) (t : List ℕ) (link : ℕ) : Type 0 where
   pub within : link ≤ count
-  pub has : (k : ℕ) → k < below → nameAt source table k ≡ t → OnChain table link k
+  pub has : (k : ℕ) → k < below → nameAt source table k ≡ t → Reached source table below t link
 
 module _ {source table : List ℕ} {count : ℕ} (s : Sound source table count) (below : ℕ) (t : List ℕ) where
   -- The whole chain is left.
-  pub whole-left : below ≤ count → (bucket : ℕ) → bucket ≡ bucketOf (keyOf t) → bucket < 4096 → Left source table count below t (headOf table bucket)
+  pub whole-left : below ≤ count → (bucket : ℕ) → bucket ≡ bucketOf (keyOf t) → bucket < buckets → Left source table count below t (headOf table bucket)
   whole-left few bucket e b =
       record {
         within = s .heads bucket b;
         has = λ k h name.
-            subst (λ (x : ℕ). OnChain table (headOf table x) k) (ap (λ (u : List ℕ). bucketOf (keyOf u)) name ∙ sym e) (s .linked k (omega arith));
+            let on = s .linked k (omega arith) in
+            let early = on .first in
+            record {
+              entry = on .entry;
+              first = omega arith;
+              name = on .name ∙ name;
+              onChain = subst (λ (x : ℕ). OnChain table (headOf table x) (on .entry)) (ap (λ (u : List ℕ). bucketOf (keyOf u)) name ∙ sym e) (on .onChain);
+            };
       }
 
   module _ {link : ℕ} (l : Left source table count below t link) where
     module _ (k : ℕ) (is : link ≡ k + 1) (r : Bool) (asked : r ≡ (ltb k below && same t (nameAt source table k))) where
-      -- This entry is one of the first and has the name.
-      pub found : r ≡ true → Found source table below t k
-      found e =
-          let both = sym asked ∙ e in
-          let first = and-left (ltb k below) (same t (nameAt source table k)) both in
-          let known = ltb-true k below first in
-          let equal = same-equal t (nameAt source table k) (and-right (ltb k below) (same t (nameAt source table k)) both) in
-          let size = length-names source table below in
-          let name = names-at source table below k known ∙ sym equal in
-          record { within = omega arith; among = is-among (namesOf source table below) t k (omega arith) name ∙ sym first; name = λ h. name }
-
-      -- It is not, and the next one is asked.
+      -- This entry is none of the first with the name, and the next one is asked.
       pub one-less : r ≡ false → Left source table count below t (nextOf table k)
       one-less e =
           let most = l .within in
           let next = s .entries k (omega arith) .next in
           record {
             within = omega arith;
-            has = λ j h name.
+            has = λ i h name.
+                let on = l .has i h name in
+                let early = on .first in
                 ⊎-elim
-                (λ (q : j ≡ k).
+                (λ (q : on .entry ≡ k).
                 absurd
                 (false≢true
                 (sym e
                 ∙ asked
-                ∙ rw (lt-ltb k below (omega arith)) (ap (same t) (ap (nameAt source table) (sym q) ∙ name) ∙ same-self t))))
-                (λ on. on)
-                (chain-cases table k (l .has j h name) is);
+                ∙ rw (lt-ltb k below (omega arith)) (ap (same t) (ap (nameAt source table) (sym q) ∙ on .name) ∙ same-self t))))
+                (λ rest. record { entry = on .entry; first = early; name = on .name; onChain = rest })
+                (chain-cases table k (on .onChain) is);
           }
 
     -- None has it.
@@ -105,7 +126,7 @@ module _ {source table : List ℕ} {count : ℕ} (s : Sound source table count) 
               none-among (namesOf source table below) t
               (λ k h name.
               let known : k < below = omega arith in
-              chain-ends table (l .has k known (sym (names-at source table below k known) ∙ name)) e)
+              chain-ends table (l .has k known (sym (names-at source table below k known) ∙ name) .onChain) e)
               ∙ sym (le-ltb below below (omega arith));
           name = λ h. absurd (omega arith);
         }

@@ -1,5 +1,5 @@
 -- The key of a name: a 32-bit number made of its bytes. Names with other keys are other names.
-use Prim.Native.Nat.{ℕ, _+_, _*_, _%_, _^_}
+use Prim.Native.Nat.{ℕ, _+_, _*_, _/_, _%_, _^_}
 use mathlib.Core.List.{List, [], _∷_}
 
 -- The key of the bytes so far, made into that of those and the bytes after them.
@@ -11,6 +11,18 @@ keyFrom key (b ∷ s) = keyFrom ((key * 75 + b) % 2 ^ 32) s
 abbrev pub keyOf : List ℕ → ℕ
 keyOf s = keyFrom 0 s
 
--- The chain that a name with this key is on.
+-- How many chains a table has, ..
+abbrev pub buckets : ℕ
+buckets = 4096
+
+-- .. and the one that a name with this key is on.
 abbrev pub bucketOf : ℕ → ℕ
-bucketOf key = key % 4096
+bucketOf key = key % buckets
+
+-- How many links to recent names a table has, ..
+abbrev pub slots : ℕ
+slots = 4096
+
+-- .. and the place of the one for names with this key.
+abbrev pub slotOf : ℕ → ℕ
+slotOf key = key / buckets % slots

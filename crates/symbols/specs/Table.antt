@@ -1,17 +1,23 @@
--- The table: first the heads of 4,096 chains, then the entries, of four words each. A link is 0 where a
--- chain ends, else one more than the number of an entry. A name is a part of a text.
+-- The table: first the heads of 4,096 chains, then links to 4,096 entries that were put on a chain recently, then
+-- the entries, of four words each. A link is 0 where a chain ends, else one more than the number of an entry. A name is
+-- a part of a text. A name that an entry on a chain has need not be on that chain again.
 use Prim.Native.Nat.{ℕ, zero, suc, _+_, _-_, _*_}
 use mathlib.Core.Path.{_≡_}
 use mathlib.Core.List.{List, [], _∷_, _++_}
 use lib.ListN.{getD, take, drop}
+use Rattle.symbols.specs.Keys.{buckets, slots}
 
 -- The link that a chain begins with.
 abbrev pub headOf : List ℕ → ℕ → ℕ
 headOf table bucket = getD table bucket 0
 
+-- The link to the entry that was the last to be put on a chain of those whose keys have this slot.
+abbrev pub recentOf : List ℕ → ℕ → ℕ
+recentOf table slot = getD table (buckets + slot) 0
+
 -- Where entry k stands: ..
 abbrev pub entryAt : ℕ → ℕ
-entryAt k = 4096 + 4 * k
+entryAt k = buckets + slots + 4 * k
 
 -- .. the link to the next entry of its chain, ..
 abbrev pub nextOf : List ℕ → ℕ → ℕ

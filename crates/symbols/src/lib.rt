@@ -2,12 +2,13 @@
 use source::numbers::are_same;
 use source::tokens::next_token;
 ghost use mathlib.Core.Path.{_≡_};
-ghost use mathlib.Core.Bool.{_&&_};
+ghost use mathlib.Core.Bool.{true, _&&_};
 ghost use mathlib.Core.List.{[], _∷_, _++_};
 ghost use Prim.Native.Nat.{_+_, _^_, _≤_, _<_};
 ghost use lib.Dec.{ltb};
 ghost use lib.ListN.{length};
 ghost use Rattle.source.specs.Numbers.{same};
+ghost use Rattle.source.specs.Lookup.{isAmong};
 ghost use Rattle.source.specs.Tokens.{tokens, texts};
 ghost use Rattle.symbols.specs.Keys.{keyOf};
 ghost use Rattle.symbols.specs.Table.{part, entryAt, nameAt, namesOf};
@@ -15,6 +16,12 @@ ghost use Rattle.symbols.specs.Sound.{Entry, Sound, Empty, Found};
 
 // How many chains there are.
 const HEADS: usize = 4096;
+
+// How many names are known as recent ones.
+const RECENTS: usize = 4096;
+
+// Where the entries begin.
+const ENTRIES: usize = HEADS + RECENTS;
 
 // How many words an entry has.
 const ENTRY: usize = 4;
@@ -32,26 +39,33 @@ pub fn find(source: &[u8], table: &[u32], count: usize, below: usize, t: &[u8]) 
         if is_entry(source, table, below, k, key, t) {
             return k;
         }
-        let at = HEADS + ENTRY * k;
+        let at = ENTRIES + ENTRY * k;
         link = table[at] as usize;
     }
     below
 }
 
-// Adds one more entry, for the name from start to end, as the first of its chain.
+// Adds one more entry, for the name from start to end. It is the first of its chain, unless its name is a recent one: a name that is repeated does not make a chain long.
 pub fn add(source: &[u8], table: &mut [u32], count: usize, start: usize, end: usize)
     requires { ⌜ Sound (now source) (now table) count × (start ≤ end) × (end ≤ length (now source)) × (length (now source) < 2 ^ 32) × (count + 1 < 2 ^ 32) × (entryAt (count + 1) ≤ length (now table)) ⌝ }
     ensures { λ _. ⌜ Sound (now (source .entry)) (now (table .exit)) (count + 1) × (namesOf (now (source .entry)) (now (table .exit)) (count + 1) ≡ namesOf (now (source .entry)) (now (table .entry)) count ++ (part (now (source .entry)) start end ∷ [])) × (length (now (table .exit)) ≡ length (now (table .entry))) ⌝ }
 {
     let key = key_of(&source[start..end]);
+    let recent = is_recent(source, table, count, key, &source[start..end]);
     let bucket = key as usize % HEADS;
     let head = table[bucket];
-    let at = HEADS + ENTRY * count;
+    let at = ENTRIES + ENTRY * count;
     table[at] = head;
     table[at + 1] = key;
     table[at + 2] = start as u32;
     table[at + 3] = end as u32;
-    table[bucket] = (count + 1) as u32;
+    if recent {
+        return;
+    }
+    let link = (count + 1) as u32;
+    let slot = key as usize / HEADS % RECENTS;
+    table[bucket] = link;
+    table[HEADS + slot] = link;
 }
 
 // Adds each token of a text of names to an empty table; how many there are.
@@ -88,12 +102,25 @@ fn key_of(t: &[u8]) -> u32
     key as u32
 }
 
+// Whether the name t, of which this is the key, is that of the last entry of its slot that was put on a chain.
+fn is_recent(source: &[u8], table: &[u32], count: usize, key: u32, t: &[u8]) -> bool
+    requires { ⌜ Sound (now source) (now table) count × (key ≡ keyOf (now t)) ⌝ }
+    ensures { λ r. ⌜ (r ≡ true → isAmong (namesOf (now (source .entry)) (now (table .entry)) count) (now (t .entry)) ≡ true) ⌝ }
+{
+    let slot = key as usize / HEADS % RECENTS;
+    let link = table[HEADS + slot] as usize;
+    if 0 < link {
+        return is_entry(source, table, count, link - 1, key, t);
+    }
+    false
+}
+
 // Whether entry k is one of the first `below` and has the name t, of which this is the key. Where the keys differ, the bytes are not compared.
 fn is_entry(source: &[u8], table: &[u32], below: usize, k: usize, key: u32, t: &[u8]) -> bool
     requires { ⌜ Entry (now source) (now table) k × (entryAt (k + 1) ≤ length (now table)) × (key ≡ keyOf (now t)) ⌝ }
     ensures { λ r. ⌜ r ≡ (ltb k below && same (now (t .entry)) (nameAt (now (source .entry)) (now (table .entry)) k)) ⌝ }
 {
-    let at = HEADS + ENTRY * k;
+    let at = ENTRIES + ENTRY * k;
     if table[at + 1] != key {
         return false;
     }

@@ -1,10 +1,9 @@
 -- `symbols::add` meets its contract.
-use mathlib.Core.Path.{refl}
 use native.Mathlib.Omega.{arith}
-use lib.ListN.{length-set, getD}
+use lib.ListN.{length-set}
 use borrow.Author.Needs.{needs}
-use Rattle.symbols.specs.Keys.{bucketOf}
-use Rattle.symbols.proofs.AddLaws.{all-stored, Added, names-added, sound-added}
+use Rattle.symbols.specs.Keys.{slotOf}
+use Rattle.symbols.proofs.AddLaws.{known-added, first-added}
 use Rattle.symbols.proofs.add.Statement.{statement}
 use Rattle.symbols.proofs.add.Tie as tie
 
@@ -19,6 +18,18 @@ part-key-of-end c = search needs
 
 key-of-requires : tie.Need-key-of-requires
 key-of-requires c κs = search needs
+
+sub-is-recent : tie.Need-sub-is-recent
+sub-is-recent c = search needs
+
+part-is-recent-start : tie.Need-part-is-recent-start
+part-is-recent-start c = search needs
+
+part-is-recent-end : tie.Need-part-is-recent-end
+part-is-recent-end c = search needs
+
+is-recent-requires : tie.Need-is-recent-requires
+is-recent-requires c κs = search needs
 
 cast-bucket : tie.Need-cast-bucket
 cast-bucket c = search needs
@@ -74,11 +85,23 @@ mul-table-4 c = search needs
 slice-write-table-4 : tie.Need-slice-write-table-4
 slice-write-table-4 c = simp length-set (omega arith)
 
-add-table-4 : tie.Need-add-table-4
-add-table-4 c = search needs
+same-length : tie.Need-same-length
+same-length c = search needs
 
-cast-table-3 : tie.Need-cast-table-3
-cast-table-3 c = search needs
+returns : tie.Need-returns
+returns c =
+    let s = c .before .before .before .before .before .before .before .before .before in
+    let key = c .before .before .before .before .before .key-of in
+    known-added (s .pre .0) (s .pre .1) (s .pre .2) (s .pre .5) (key .result) (key .ensures) (c .before .before .is-recent .ensures (c .if1 .taken))
+
+add-link : tie.Need-add-link
+add-link c = search needs
+
+cast-link : tie.Need-cast-link
+cast-link c = search needs
+
+cast-slot : tie.Need-cast-slot
+cast-slot c = search needs
 
 mul-table-5 : tie.Need-mul-table-5
 mul-table-5 c = search needs
@@ -86,19 +109,23 @@ mul-table-5 c = search needs
 slice-write-table-5 : tie.Need-slice-write-table-5
 slice-write-table-5 c = simp length-set (omega arith)
 
-same-length : tie.Need-same-length
-same-length c = search needs
+add-table-4 : tie.Need-add-table-4
+add-table-4 c = search needs
 
-returns : tie.Need-returns
-returns c =
-    let s = c .before .before .before .before .before in
-    let g = s .args in
-    let key = c .before .key-of in
-    let b = bucketOf (key .result) in
-    let stored = all-stored (g .table .now) (g .count) b (getD (g .table .now) b 0) (key .result) (g .start) (g .end) refl (omega arith) (s .pre .5) in
-    let added : Added (g .source .now) (g .table .now) _ (g .count) (g .start) (g .end) (key .result) b
-    = record { sound = s .pre .0; stored = stored; room = s .pre .5; order = s .pre .1; within = s .pre .2; is-key = key .ensures; is-bucket = refl } in
-    (sound-added added, names-added added, stored .size)
+mul-table-6 : tie.Need-mul-table-6
+mul-table-6 c = search needs
+
+slice-write-table-6 : tie.Need-slice-write-table-6
+slice-write-table-6 c = simp length-set (omega arith)
+
+same-length-2 : tie.Need-same-length-2
+same-length-2 c = simp length-set (omega arith)
+
+returns-2 : tie.Need-returns-2
+returns-2 c =
+    let s = c .before .before .before .before .before .before .before .before .before in
+    let key = c .before .before .before .before .before .key-of in
+    first-added (s .pre .0) (s .pre .1) (s .pre .2) (s .pre .5) (key .result) (key .ensures) (slotOf (key .result)) (omega arith)
 
 pub add-spec : {M : Type 1} → statement M
 add-spec =
@@ -108,6 +135,10 @@ add-spec =
     part-key-of-start
     part-key-of-end
     key-of-requires
+    sub-is-recent
+    part-is-recent-start
+    part-is-recent-end
+    is-recent-requires
     cast-bucket
     mul-head
     slice-read-head
@@ -126,9 +157,15 @@ add-spec =
     add-table-3
     mul-table-4
     slice-write-table-4
-    add-table-4
-    cast-table-3
+    same-length
+    returns
+    add-link
+    cast-link
+    cast-slot
     mul-table-5
     slice-write-table-5
-    same-length
-    returns)
+    add-table-4
+    mul-table-6
+    slice-write-table-6
+    same-length-2
+    returns-2)

@@ -50,10 +50,9 @@ is-entry-requires c κs =
 
 returns : tie.Need-returns Inv-loop μ-loop
 returns c =
-    let s = c .before .before .before .before .before .before .before .before .before in
-    let l = c .before .before .before .loop in
-    let some = c .before .before .loop-test .taken in
-    found (s .pre .0) (s .args .below) (s .args .t .now) (l .inv) (l .link - 1) (omega arith) (c .before .is-entry .result) (c .before .is-entry .ensures) (c .if1 .taken)
+    let g = c .before .before .before .before .before .before .before .before .before .args in
+    let k = c .before .before .before .loop .link - 1 in
+    found (g .source .now) (g .table .now) (g .below) k (g .t .now) (c .before .is-entry .result) (c .before .is-entry .ensures) (c .if1 .taken)
 
 mul-at : tie.Need-mul-at Inv-loop μ-loop
 mul-at c = let within = c .before .before .before .loop .inv .within in let room = c .before .before .before .before .before .before .before .before .before .pre .0 .room in omega arith

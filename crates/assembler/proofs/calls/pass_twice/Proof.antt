@@ -12,7 +12,7 @@ slice-aggregate-add-names : tie.Need-slice-aggregate-add-names
 slice-aggregate-add-names c = search needs
 
 add-names-requires : tie.Need-add-names-requires
-add-names-requires c κs = (refl, zeros-empty 4716 (omega arith), omega (arith, length-replicate {A = ℕ} 4716 0))
+add-names-requires c κs = (refl, zeros-empty 8812 (omega arith), omega (arith, length-replicate {A = ℕ} 8812 0))
 
 digit-values-requires : tie.Need-digit-values-requires
 digit-values-requires c κs = search needs
@@ -27,7 +27,7 @@ slice-aggregate-find-labels-3 : tie.Need-slice-aggregate-find-labels-3
 slice-aggregate-find-labels-3 c = search needs
 
 find-labels-requires : tie.Need-find-labels-requires
-find-labels-requires c κs = (c .before .before .before .before .before .before .before .before .before .before .before .before .pre .0, zeros-empty 353624 (omega arith), length-replicate {A = ℕ} 353624 0, length-replicate {A = ℕ} 1024 0, length-replicate {A = ℕ} 28 0, c .before .before .before .before .digit-values .ensures)
+find-labels-requires c κs = (c .before .before .before .before .before .before .before .before .before .before .before .before .pre .0, zeros-empty 357720 (omega arith), length-replicate {A = ℕ} 357720 0, length-replicate {A = ℕ} 1024 0, length-replicate {A = ℕ} 28 0, c .before .before .before .before .digit-values .ensures)
 
 slice-aggregate-translate : tie.Need-slice-aggregate-translate
 slice-aggregate-translate c = search needs

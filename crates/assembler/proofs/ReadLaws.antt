@@ -15,9 +15,10 @@ use Rattle.source.specs.declared.Number.{Number}
 use Rattle.source.specs.declared.Number.the-variants.{Decimal, Minus, Hexadecimal, NoNumber}
 use Rattle.source.specs.Spans.{PartOf}
 use Rattle.source.specs.Numbers.{number, isNumber}
-use Rattle.source.specs.Lookup.{placeOf}
+use Rattle.source.specs.Lookup.{isAmong, placeOf}
 use Rattle.symbols.specs.Sound.{Found}
 use Rattle.symbols.proofs.NameLaws.{length-names}
+use Rattle.symbols.proofs.LookupLaws.{is-among}
 use Rattle.symbols.proofs.DistinctLaws.{distinct-place}
 use Rattle.lines.specs.declared.Form.{Form}
 use Rattle.lines.specs.declared.Form.the-variants.{Nothing, Label, Code, Labelled, Word, Wrong}
@@ -65,13 +66,14 @@ module _ {source table values t : List ℕ} {ls : List (List ℕ)} {count r : �
 
   module _ (h : r < count) where
     -- It is label r of a text with no label twice, and so has the value of that.
-    label-value : (Usual ls) → r < mostLabels → getD values r 0 ≡ valueOf 0 ls t
+    label-value : (Usual ls) → r < mostLabels → getD values r 0 ≡ valueOf ls t
     label-value u k =
         let size = labels-number in
         let here : getD (labels ls) r [] ≡ t = rw (l .names) at (f .name h) in
-        l .valued r h k ∙ sym (value-at 0 ls t ∙ ap (λ (p : ℕ). getD (labelValues 0 ls) p 0) (distinct-place (labels ls) t (u .distinct) r (omega arith) here))
+        let among : isAmong (labels ls) t ≡ true = is-among (labels ls) t r (omega arith) here in
+        l .valued r h k ∙ sym (value-at ls t among ∙ ap (λ (p : ℕ). getD (labelValues 0 ls) p 0) (distinct-place (labels ls) t (u .distinct) r (omega arith) here))
 
-    label-some : (v : ℕ) → v < 2 ^ 12 → (Usual ls → v ≡ valueOf 0 ls t % 2 ^ 12) → ImmediateRead ls t (record { inside = true; defined = true; value = v })
+    label-some : (v : ℕ) → v < 2 ^ 12 → (Usual ls → v ≡ valueOf ls t % 2 ^ 12) → ImmediateRead ls t (record { inside = true; defined = true; value = v })
     unfolding immediate
     label-some v fits is =
         record {

@@ -1,17 +1,17 @@
 -- The lines of a text, taken together and one by one. Assumes nothing.
 use Prim.Native.Nat.{ℕ, suc, _+_, _≤_, _<_}
 use mathlib.Core.Path.{_≡_, refl, sym, _∙_, ap}
-use mathlib.Core.Bool.{Bool, true, false, cond, _&&_}
+use mathlib.Core.Bool.{Bool, true, false, cond, _&&_, false≢true}
 use mathlib.Core.List.{List, [], _∷_, _++_, append-nil}
 use native.Mathlib.Omega.{arith}
 use native.Mathlib.Numerals.{add-one}
-use native.Mathlib.Nat.{add-zero}
+use native.Mathlib.Nat.{add-zero, zero-add}
 use lib.ListN.{length, getD, set}
 use Rattle.source.specs.Numbers.{same, number}
-use Rattle.source.specs.Lookup.{placeOf}
+use Rattle.source.specs.Lookup.{isAmong, placeOf}
 use Rattle.lines.specs.Line.{formOf, hasLabel, hasCode, hasWord, labelOf, part}
 use Rattle.lines.specs.Ranges.{modulo}
-use Rattle.assembler.specs.Text.{codeCount, labels, valueOf, labelValues}
+use Rattle.assembler.specs.Text.{codeCount, labels, linesBefore, valueOf, labelValues}
 use Rattle.assembler.specs.Memories.{encoded, codeOf, stored}
 
 -- ---- two lists of lines
@@ -87,14 +87,26 @@ length-words all (l ∷ ls) = go (hasCode (formOf l)) (length-words all ls)
 
 -- ---- the value of a label
 
--- It is the one at its place.
-pub value-at : (n : ℕ) (ls : List (List ℕ)) (t : List ℕ) → valueOf n ls t ≡ getD (labelValues n ls) (placeOf (labels ls) t) 0
-unfolding valueOf labelValues labels placeOf
-value-at n [] t = refl
-value-at n (l ∷ ls) t = go (hasLabel (formOf l)) (hasCode (formOf l)) (same t (labelOf l)) refl (λ m. value-at m ls t)
+-- It is the one at its place, where so many instructions stand before these lines, ..
+value-from : (n : ℕ) (ls : List (List ℕ)) (t : List ℕ) → isAmong (labels ls) t ≡ true → n + codeCount (linesBefore ls t) ≡ getD (labelValues n ls) (placeOf (labels ls) t) 0
+unfolding linesBefore labelValues labels placeOf isAmong codeCount
+value-from n [] t e = absurd (false≢true e)
+value-from n (l ∷ ls) t e = go (hasLabel (formOf l)) (hasCode (formOf l)) refl (same t (labelOf l)) refl e (λ m. value-from m ls t)
   where
-    go : (g h s : Bool) → same t (labelOf l) ≡ s → ((m : ℕ) → valueOf m ls t ≡ getD (labelValues m ls) (placeOf (labels ls) t) 0) → cond (g && s) n (valueOf (cond h (n + 1) n) ls t)
+    later : (h : Bool) → hasCode (formOf l) ≡ h → ((m : ℕ) → m + codeCount (linesBefore ls t) ≡ getD (labelValues m ls) (placeOf (labels ls) t) 0)
+        → n + cond (hasCode (formOf l)) (suc (codeCount (linesBefore ls t))) (codeCount (linesBefore ls t)) ≡ getD (labelValues (cond h (n + 1) n) ls) (placeOf (labels ls) t) 0
+    later true q more = rw q (omega (arith, more (n + 1)))
+    later false q more = rw q (more n)
+
+    go : (g h : Bool) → hasCode (formOf l) ≡ h → (s : Bool) → same t (labelOf l) ≡ s → isAmong (cond g (labelOf l ∷ labels ls) (labels ls)) t ≡ true
+        → ((m : ℕ) → isAmong (labels ls) t ≡ true → m + codeCount (linesBefore ls t) ≡ getD (labelValues m ls) (placeOf (labels ls) t) 0)
+        → n + codeCount (cond (g && s) [] (l ∷ linesBefore ls t))
         ≡ getD (cond g (n ∷ labelValues (cond h (n + 1) n) ls) (labelValues (cond h (n + 1) n) ls)) (placeOf (cond g (labelOf l ∷ labels ls) (labels ls)) t) 0
-    go true h true e more = rw e
-    go true h false e more = rw e (more (cond h (n + 1) n))
-    go false h s e more = more (cond h (n + 1) n)
+    go true h q true x e more = rw (x, add-zero)
+    go true h q false x e more = rw x (later h q (λ m. more m (rw x at e)))
+    go false h q s x e more = later h q (λ m. more m e)
+
+-- .. and so of a text.
+pub value-at : (ls : List (List ℕ)) (t : List ℕ) → isAmong (labels ls) t ≡ true → valueOf ls t ≡ getD (labelValues 0 ls) (placeOf (labels ls) t) 0
+unfolding valueOf
+value-at ls t e = sym (zero-add (codeCount (linesBefore ls t))) ∙ value-from 0 ls t e

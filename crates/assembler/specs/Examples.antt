@@ -18,7 +18,7 @@ use Rattle.source.specs.Shapes.{fits, matches, firstShape}
 use Rattle.source.specs.Lookup.{isAmong, placeOf}
 use Rattle.lines.specs.Line.{shapes, formOf}
 use Rattle.lines.specs.Asked.{isKnown, areInRange, isWordInRange}
-use Rattle.assembler.specs.Text.{codeCount, labels, valueOf}
+use Rattle.assembler.specs.Text.{codeCount, labels, linesBefore, valueOf}
 use Rattle.assembler.specs.Questions.{lineQuestions, textTold, assembleTold}
 use Rattle.assembler.specs.Memories.{immediate, encoded, codeOf, assembledImage, stored, assembledData}
 
@@ -27,7 +27,7 @@ unfolding assembleTold textTold lineQuestions isKnown areInRange isWordInRange f
 told source = assembleTold (bytes source) 4096 4096
 
 unfoldable image : String → List ℕ
-unfolding assembledImage codeOf encoded immediate valueOf placeOf lines formOf shapes firstShape matches fits isName isRegister isDefinition number same tokensFrom areRightBytes all allDigits value operationNames registerNames
+unfolding assembledImage codeOf encoded immediate valueOf linesBefore codeCount placeOf lines formOf shapes firstShape matches fits isName isRegister isDefinition number same tokensFrom areRightBytes all allDigits value operationNames registerNames
 image source = assembledImage (bytes source)
 
 unfoldable words : String → List ℕ

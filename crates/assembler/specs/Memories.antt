@@ -16,7 +16,7 @@ use Rattle.assembler.specs.Text.{valueOf}
 
 -- "Immediates .., stored modulo 4096": a number, or a label's value.
 unfoldable pub immediate : (all : List (List ℕ)) → List ℕ → ℕ
-immediate all t = cond (isNumber (number t)) (modulo 12 (number t)) (valueOf 0 all t % 2 ^ 12)
+immediate all t = cond (isNumber (number t)) (modulo 12 (number t)) (valueOf all t % 2 ^ 12)
 
 -- The word of an instruction.
 unfoldable pub encoded : (all : List (List ℕ)) → List ℕ → ℕ

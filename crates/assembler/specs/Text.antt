@@ -15,14 +15,16 @@ unfoldable pub labels : List (List ℕ) → List (List ℕ)
 labels [] = []
 labels (l ∷ ls) = cond (hasLabel (formOf l)) (labelOf l ∷ labels ls) (labels ls)
 
--- "its value is the count of instructions before it": of the first line that defines it, `before` instructions standing before these lines.
-unfoldable pub valueOf : (before : ℕ) → List (List ℕ) → List ℕ → ℕ
-valueOf before [] t = 0
-valueOf before (l ∷ ls) t =
-    let more = valueOf (cond (hasCode (formOf l)) (before + 1) before) ls t in
-    cond (hasLabel (formOf l) && same t (labelOf l)) before more
+-- The lines before the first one that defines a label; all of them where none does.
+unfoldable pub linesBefore : List (List ℕ) → List ℕ → List (List ℕ)
+linesBefore [] t = []
+linesBefore (l ∷ ls) t = cond (hasLabel (formOf l) && same t (labelOf l)) [] (l ∷ linesBefore ls t)
 
--- The values of the labels, in their order (for the code: `value-at` ties them to `valueOf`).
+-- "its value is the count of instructions before it"
+unfoldable pub valueOf : List (List ℕ) → List ℕ → ℕ
+valueOf all t = codeCount (linesBefore all t)
+
+-- The values of the labels, in their order, where `before` instructions stand before these lines (for the code: `value-at` ties them to `valueOf`).
 unfoldable pub labelValues : (before : ℕ) → List (List ℕ) → List ℕ
 labelValues before [] = []
 labelValues before (l ∷ ls) =

@@ -1,9 +1,12 @@
 // The call: a text assembled into a lent image and data memory.
 use crate::Assembled;
 use crate::Refusal;
+use crate::ask::MOST_LABELS;
 use crate::labels::find_labels;
 use crate::store::copy_image;
 use crate::translate::translate;
+use lines::forms::PLACES;
+use lines::instructions::NAME_WORDS;
 use lines::instructions::NAMES;
 use lines::instructions::add_names;
 use text::digits::digit_values;
@@ -20,9 +23,14 @@ ghost use Rattle.assembler.specs.Answers.{assembledTold};
 ghost use Rattle.assembler.specs.Promises.{Assembling};
 ghost use Rattle.assembler.specs.Passes.{Translated};
 
+// The bytes of the longest text.
 const MOST_SOURCE: usize = 262_144;
 
+// The words of the image, and of the data memory.
 const MEMORY_WORDS: usize = 4096;
+
+// The words of a table that has room for every label of the longest text.
+const TABLE_WORDS: usize = 8192 + 4 * 87_382;
 
 // Assembles a text of up to 262,144 bytes into an instruction image and a data memory of 4,096 words each.
 pub fn assemble(source: &[u8], image: &mut [u64], memory: &mut [u32]) -> Assembled
@@ -31,8 +39,8 @@ pub fn assemble(source: &[u8], image: &mut [u64], memory: &mut [u32]) -> Assembl
     if !are_right_lengths(source.len(), image.len(), memory.len()) {
         return Assembled::WrongLength;
     }
-    let mut words = [0u64; 4096];
-    let mut stored = [0u32; 4096];
+    let mut words = [0u64; MEMORY_WORDS];
+    let mut stored = [0u32; MEMORY_WORDS];
     let r = pass_twice(source, &mut words, &mut stored);
     if r.number != 0 {
         return refused(r);
@@ -61,12 +69,12 @@ fn pass_twice(source: &[u8], words: &mut [u64], memory: &mut [u32]) -> Refusal
     ensures { λ r. ⌜ Translated (now (source .entry)) r (now (words .exit)) (now (memory .exit)) ⌝ }
 {
     let names = NAMES;
-    let mut name_table = [0u32; 8812];
+    let mut name_table = [0u32; NAME_WORDS];
     add_names(&names, &mut name_table);
     let digits = digit_values();
-    let mut places = [0usize; 28];
-    let mut table = [0u32; 357720];
-    let mut values = [0u32; 1024];
+    let mut places = [0usize; PLACES];
+    let mut table = [0u32; TABLE_WORDS];
+    let mut values = [0u32; MOST_LABELS];
     let count = find_labels(source, &mut table, &mut values, &mut places, &digits);
     translate(
         source,

@@ -25,11 +25,17 @@ ghost use Rattle.lines.specs.Parts.{Formed};
 ghost use Rattle.lines.specs.Names.{NameTable};
 ghost use Rattle.assembler.specs.Passes.{LabelTable, ImmediateRead, StatementRead};
 
-const BELOW: u64 = 2048;
+// Immediates run from -2048 to 4095 and are stored modulo 4096.
+const IMMEDIATE_BELOW: u64 = 2048;
 
-const LAST: u64 = 4095;
+const IMMEDIATE_LAST: u64 = 4095;
 
-const WORDS: u64 = 4096;
+const IMMEDIATE_POWER: u64 = 4096;
+
+// Addresses of `.word` run to 4095, its data from -2^31 to 2^32-1.
+const ADDRESS_LAST: u64 = 4095;
+
+const ADDRESS_POWER: u64 = 4096;
 
 const DATA_BELOW: u64 = 0x8000_0000;
 
@@ -166,13 +172,13 @@ fn read_immediate(
         return read_label(source, t, table, values, count);
     }
     Immediate {
-        inside: is_within(n, BELOW, LAST),
+        inside: is_within(n, IMMEDIATE_BELOW, IMMEDIATE_LAST),
         defined: true,
-        value: modulo(n, WORDS) as u32,
+        value: modulo(n, IMMEDIATE_POWER) as u32,
     }
 }
 
-// A token that is no number as an immediate: a label with its value.
+// A token that is no number as an immediate: a label with its value. Labels after the first 1,024 have none: a text with such a label is refused.
 fn read_label(source: &[u8], t: &[u8], table: &[u32], values: &[u32], count: usize) -> Immediate
     requires { ⌜ (LabelTable (now source) (lines (now source)) (now table) (now values) count) × (isNumber (number (now t)) ≡ false) ⌝ }
     ensures { λ r. ⌜ ImmediateRead (lines (now (source .entry))) (now (t .entry)) r ⌝ }
@@ -213,12 +219,12 @@ fn read_word(line: &[u8], f: Form, places: &[usize], digits: &[u8; 256]) -> Stat
     Statement {
         known: true,
         inside: both(
-            is_within(address, 0, LAST),
+            is_within(address, 0, ADDRESS_LAST),
             is_within(value, DATA_BELOW, DATA_LAST),
         ),
         defined: true,
         word: 0,
-        address: modulo(address, WORDS) as usize,
+        address: modulo(address, ADDRESS_POWER) as usize,
         value: modulo(value, DATA_POWER) as u32,
     }
 }

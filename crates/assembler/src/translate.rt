@@ -19,7 +19,8 @@ ghost use Rattle.lines.specs.Names.{NameTable};
 ghost use Rattle.assembler.specs.Questions.{mostSource};
 ghost use Rattle.assembler.specs.Passes.{LabelTable, Translated};
 
-// Asks each line of a text in turn, and stores what it says in words and a data memory that are zero; the first refusal.
+// Asks each line of a text in turn, and stores what it says in words and a data memory that are zero; the first refusal. Before the line at p stand i
+// lines with n instructions and m labels.
 pub fn translate(
     source: &[u8],
     names: &[u8],

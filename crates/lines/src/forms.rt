@@ -13,6 +13,9 @@ ghost use Rattle.source.specs.Shapes.{formOf as shapeOf};
 ghost use Rattle.lines.specs.Line.{directive as directiveOf, shapes, formAt, isRight, hasLabel, hasCode, hasWord};
 ghost use Rattle.lines.specs.Parts.{partCount, mostPlaces, Formed};
 
+// Places for the start and the end of as many tokens as a line can have, and of one more.
+pub const PLACES: usize = 28;
+
 // The form of a line; the places of its tokens are laid into `places`.
 pub fn line_form(line: &[u8], places: &mut [usize], values: &[u8; 256]) -> Form
     requires { ⌜ (length (now places) ≡ mostPlaces) × DigitValues (now values) ⌝ }

@@ -16,7 +16,7 @@ use Rattle.isa.specs.Word.{fieldsOf}
 use Rattle.lister.specs.declared.Listed.{Listed}
 use Rattle.lister.specs.Listing.{listing}
 use Rattle.lister.specs.Calls.{listedTold, lastOpcode, firstUnknown, listTold, TextListed}
-use Rattle.roundtrip.proofs.ListedText.{KnownOpcodes}
+use Rattle.roundtrip.specs.Demand2.{KnownOpcodes}
 
 -- ---- the question of opcodes
 

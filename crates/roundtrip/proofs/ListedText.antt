@@ -16,13 +16,9 @@ use Rattle.assembler.specs.Text.{codeCount}
 use Rattle.assembler.specs.Questions.{lineQuestions}
 use Rattle.assembler.specs.Memories.{codeOf, stored}
 use Rattle.lister.specs.Listing.{listedLine, listing}
-use Rattle.lister.specs.Calls.{lastOpcode}
+use Rattle.roundtrip.specs.Demand2.{KnownOpcodes}
 use Rattle.roundtrip.proofs.WrittenTokens.{allowed-no-lf}
 use Rattle.roundtrip.proofs.ListedLine.{Good, listed-good}
-
--- Every word has an opcode that names an operation.
-abbrev pub KnownOpcodes : List ℕ → Type 0
-KnownOpcodes words = (k : ℕ) → k < length words → fieldsOf (getD words k 0) .op ≤ lastOpcode
 
 module _ (w : ℕ) (ws : List ℕ) (known : KnownOpcodes (w ∷ ws)) where
   first-good : Good (listedLine w) (w % 2 ^ 48)

@@ -21,7 +21,8 @@ use Rattle.assembler.specs.Promises.{Assembling}
 use Rattle.lister.specs.declared.Listed.{Listed}
 use Rattle.lister.specs.Listing.{listing}
 use Rattle.lister.specs.Calls.{listedTold, listTold, TextListed}
-use Rattle.roundtrip.proofs.ListedText.{KnownOpcodes, listed-lines, listed-length, no-line-bad, listed-code, nothing-stored}
+use Rattle.roundtrip.specs.Demand2.{KnownOpcodes, Demand2}
+use Rattle.roundtrip.proofs.ListedText.{listed-lines, listed-length, no-line-bad, listed-code, nothing-stored}
 use Rattle.roundtrip.proofs.ListedCalls.{all-known, accepted-is, text-in-front}
 
 -- ---- of texts
@@ -93,3 +94,16 @@ pub listed-image-returns : (words out : List ℕ) (r : Listed) (after : List ℕ
 listed-image-returns words out r after n image memory a imageAfter memoryAfter listed good image-size data-size assembled whole =
     let back = listed-assembles words out r after n image memory a imageAfter memoryAfter listed good image-size data-size assembled in
     (back .0, rw (back .1) (same-image words whole))
+
+-- Demand 2 for listing and assembling, whole: with room for the text an image with known opcodes is listed, and its listing gives it back.
+pub demand2 : Demand2
+demand2 words out text image memory imageAfter memoryAfter r a whole known room listed image-size data-size assembled =
+    let most = listed-length words known in
+    let told : listedTold r ≡ accepted (length (listing words)) = listed .answer ∙ known-listed words (length out) (omega arith) known (omega arith) in
+    let back = listed-assembles words out r text (length (listing words)) image memory a imageAfter memoryAfter listed told image-size data-size assembled in
+    record {
+      listed = told;
+      assembled = back .0;
+      same-image = rw (back .1) (same-image words whole);
+      zero-data = back .2;
+    }

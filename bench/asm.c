@@ -356,7 +356,7 @@ static void make(int i) {
     case 9: many_labels(); break;
     case 10: in_bucket(5, "aaaaa", 0); break;
     case 11: in_bucket(3, "a", 1); break;
-    case 12: full_program(1), size -= 4, add("zz,0\n"); break;
+    case 12: full_program(1), add("in $ra,$ra,$ra,$ra,zz,0\n"); break;
     }
 }
 

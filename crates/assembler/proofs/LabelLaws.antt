@@ -10,60 +10,25 @@ use lib.ListN.{length, getD, set, take, drop, length-set, length-take, length-dr
 use lib.Seq.{length-take-le, take-take, take-append-le, drop-append-le, drop-drop, getD-at, getD-set-same, getD-set-other}
 use borrow.Author.Tests.{lt-ltb, ltb-true, ltb-false}
 use borrow.Author.Count.{below-more}
-use Rattle.text.specs.Bytes.{bytes}
 use Rattle.text.specs.Lines.{lines, firstLine}
 use Rattle.text.proofs.Truth.{and-left, and-right}
 use Rattle.text.proofs.LineLaws.{lines-at}
-use Rattle.source.specs.Bytes.{areRightBytes, isLetter, isLetterOrDigit, all}
-use Rattle.source.specs.Tokens.{tokens, texts}
 use Rattle.source.specs.Names.{isName, defined, isDefinition}
-use Rattle.source.specs.Shapes.{fits, matches, firstShape, formOf as shapeOf}
 use Rattle.symbols.specs.Table.{namesOf}
 use Rattle.symbols.specs.Sound.{Sound, Empty}
 use Rattle.symbols.proofs.NameLaws.{length-names}
 use Rattle.symbols.proofs.EmptyLaws.{empty-sound}
 use Rattle.lines.specs.declared.Form.{Form}
 use Rattle.lines.specs.declared.Form.the-variants.{Nothing, Label, Code, Labelled, Word, Wrong}
-use Rattle.lines.specs.Line.{directive, shapes, formAt, formOf, hasLabel, hasCode, part, labelOf}
-use Rattle.lines.specs.Parts.{partCount, Formed}
-use Rattle.assembler.specs.Text.{codeCount, labels, labelValues}
+use Rattle.lines.specs.Line.{formOf, isRight, hasLabel, hasCode, part, labelOf}
+use Rattle.lines.specs.Parts.{partCount, Formed, FirstFormed}
+use Rattle.lines.proofs.FirstLaws.{defines}
+use Rattle.assembler.specs.Text.{codeCount, labels, areRight, labelValues}
 use Rattle.assembler.specs.Questions.{mostLabels}
 use Rattle.assembler.specs.Passes.{LabelTable, LabelNoted}
-use Rattle.assembler.proofs.TextLaws.{labels-append, code-append, values-append, length-values}
+use Rattle.assembler.proofs.TextLaws.{labels-append, code-append, values-append, right-append, length-values}
 
 -- ---- the token that defines a label
-
-first-fits : (d : List ℕ) (g : ℕ) (gs : List ℕ) (ts : List (List ℕ)) → matches d (g ∷ gs) ts ≡ true → fits d g (getD ts 0 []) ≡ true
-unfolding matches
-first-fits d g gs [] e = absurd (false≢true e)
-first-fits d g gs (t ∷ ts) e = and-left (fits d g t) (matches d gs ts) e
-
-colon-defines : (t : List ℕ) → fits directive 58 t ≡ true → isDefinition t ≡ true
-unfolding fits
-colon-defines t e = e
-
--- A line with a label begins with its definition.
-pub defines : (line : List ℕ) (f : Form) → f ≡ formOf line → hasLabel f ≡ true → isDefinition (part 0 line) ≡ true
-unfolding formOf shapes firstShape
-defines line f is e =
-    go (areRightBytes line) (matches directive (bytes "") ts) (matches directive (bytes ":") ts) (matches directive (bytes "o$,$,$,$,i,i") ts) (matches directive (bytes ":o$,$,$,$,i,i") ts) (matches directive (bytes ".00") ts)
-    (sym (ap hasLabel is) ∙ e)
-    (λ q. colon-defines (part 0 line) (first-fits directive 58 [] ts q))
-    (λ q. colon-defines (part 0 line) (first-fits directive 58 (bytes "o$,$,$,$,i,i") ts q))
-  where
-    ts : List (List ℕ)
-    ts = texts (tokens line)
-
-    go : (right none label code labelled word : Bool)
-        → hasLabel (cond right (formAt (cond none 0 (1 + cond label 0 (1 + cond code 0 (1 + cond labelled 0 (1 + cond word 0 (1 + 0))))))) Wrong) ≡ true
-        → (label ≡ true → isDefinition (part 0 line) ≡ true) → (labelled ≡ true → isDefinition (part 0 line) ≡ true) → isDefinition (part 0 line) ≡ true
-    go false none label code labelled word h a b = absurd (false≢true h)
-    go true true label code labelled word h a b = absurd (false≢true h)
-    go true false true code labelled word h a b = a refl
-    go true false false true labelled word h a b = absurd (false≢true h)
-    go true false false false true word h a b = b refl
-    go true false false false false true h a b = absurd (false≢true h)
-    go true false false false false false h a b = absurd (false≢true h)
 
 name-some : (t : List ℕ) → isName t ≡ true → 1 ≤ length t
 unfolding isName
@@ -130,9 +95,9 @@ pub record LabelOf (source : List ℕ) (p e a b : ℕ) : Type 0 where
   pub within : p + b ≤ e
   pub is : take (p + b - 1 - (p + a)) (drop (p + a) source) ≡ labelOf (take (e - p) (drop p source))
 
-pub label-of : {source places : List ℕ} {p e : ℕ} {f : Form} → p ≤ e → e ≤ length source → Formed (take (e - p) (drop p source)) places f → hasLabel f ≡ true → LabelOf source p e (getD places 0 0) (getD places 1 0)
+pub label-of : {source places : List ℕ} {p e : ℕ} {f : Form} → p ≤ e → e ≤ length source → (hasLabel f ≡ true → Formed (take (e - p) (drop p source)) places f) → hasLabel f ≡ true → LabelOf source p e (getD places 0 0) (getD places 1 0)
 label-of {source} {places} {p} {e} h w formed q =
-    let l = label-in formed q in
+    let l = label-in (formed q) q in
     let a = getD places 0 0 in
     let b = getD places 1 0 in
     let line = take (e - p) (drop p source) in
@@ -153,7 +118,7 @@ pub record Noting (source table values : List ℕ) (p n m : ℕ) : Type 0 where
   pub done : List (List ℕ)
   pub split : lines source ≡ done ++ lines (drop p source)
   pub noted : LabelTable source done table values m
-  pub code : n ≡ codeCount done
+  pub code : areRight done ≡ true → n ≡ codeCount done
   pub few : 3 * m ≤ p
   pub small : n ≤ p
 
@@ -163,8 +128,8 @@ none-noted source table values e room =
     record {
       done = [];
       split = refl;
-      noted = record { sound = empty-sound source table e; names = refl; room = room; valued = λ k h. absurd (omega arith) };
-      code = refl;
+      noted = record { sound = empty-sound source table e; names = refl; room = room; valued = λ r k h. absurd (omega arith) };
+      code = λ r. refl;
       few = omega arith;
       small = omega arith;
     }
@@ -177,37 +142,44 @@ all-noted {source} {table} {values} {p} {n} {m} d h =
     rw whole (d .noted)
 
 -- One line more.
-module _ {source table values : List ℕ} {p n m : ℕ} (d : Noting source table values p n m) (inside : p < length source) (e : ℕ) (is : e ≡ p + length (firstLine (drop p source))) (f : Form)
-    (form : f ≡ formOf (take (e - p) (drop p source))) (r : ℕ) (table′ values′ : List ℕ) (note : LabelNoted source p e f table values n m r table′ values′) where
-  line : List ℕ
+module _ {source table values : List ℕ} {p n m : ℕ} (d : Noting source table values p n m) (inside : p < length source) (e : ℕ) (is : e ≡ p + length (firstLine (drop p source))) (places : List ℕ) (f : Form)
+    (first : FirstFormed (take (e - p) (drop p source)) places f) (r : ℕ) (table′ values′ : List ℕ) (note : LabelNoted source p e f table values n m r table′ values′) where
+  abbrev line : List ℕ
   line = take (e - p) (drop p source)
 
   abbrev next : List (List ℕ)
-  next = d .done ++ (take (e - p) (drop p source) ∷ [])
+  next = d .done ++ (line ∷ [])
 
   next-split : lines source ≡ next ++ lines (drop (e + 1) source)
-  next-split = d .split ∙ ap (λ (x : List (List ℕ)). d .done ++ x) (lines-at source p e inside is) ∙ sym (append-assoc (d .done) (take (e - p) (drop p source) ∷ []) (lines (drop (e + 1) source)))
+  next-split = d .split ∙ ap (λ (x : List (List ℕ)). d .done ++ x) (lines-at source p e inside is) ∙ sym (append-assoc (d .done) (line ∷ []) (lines (drop (e + 1) source)))
 
-  next-code : (n′ : ℕ) → n′ ≡ cond (hasCode f) (n + 1) n → n′ ≡ codeCount next
+  -- Where all lines have right forms so had those before, and this one has.
+  done-right : areRight next ≡ true → areRight (d .done) ≡ true
+  done-right r = and-left (areRight (d .done)) (areRight (line ∷ [])) (sym (right-append (d .done) (line ∷ [])) ∙ r)
+
+  line-right : areRight next ≡ true → isRight (formOf line) ≡ true
+  unfolding areRight
+  line-right r = and-left (isRight (formOf line)) true (and-right (areRight (d .done)) (areRight (line ∷ [])) (sym (right-append (d .done) (line ∷ [])) ∙ r))
+
+  next-code : (n′ : ℕ) → n′ ≡ cond (hasCode f) (n + 1) n → areRight next ≡ true → n′ ≡ codeCount next
   unfolding codeCount
-  next-code n′ q = q ∙ go (hasCode f) (ap hasCode form) ∙ sym (code-append (d .done) (take (e - p) (drop p source) ∷ []))
+  next-code n′ q right =
+      let before = d .code (done-right right) in
+      q ∙ count (hasCode f) before ∙ ap (λ (b : Bool). codeCount (d .done) + cond b 1 0) (first .code (line-right right)) ∙ sym (code-append (d .done) (line ∷ []))
     where
-      go : (b : Bool) → b ≡ hasCode (formOf (take (e - p) (drop p source))) → cond b (n + 1) n ≡ codeCount (d .done) + cond (hasCode (formOf (take (e - p) (drop p source)))) 1 0
-      go b x = rw (← x) (count b)
-        where
-          count : (b : Bool) → cond b (n + 1) n ≡ codeCount (d .done) + cond b 1 0
-          count true = let c = d .code in omega arith
-          count false = let c = d .code in omega arith
+      count : (b : Bool) → n ≡ codeCount (d .done) → cond b (n + 1) n ≡ codeCount (d .done) + cond b 1 0
+      count true x = omega arith
+      count false x = omega arith
 
   -- Without a label, ..
   module _ (no-label : hasLabel f ≡ false) where
     same-labels : labels next ≡ labels (d .done)
     unfolding labels
-    same-labels = labels-append (d .done) (take (e - p) (drop p source) ∷ []) ∙ rw (sym (ap hasLabel form) ∙ no-label) (append-nil (labels (d .done)))
+    same-labels = labels-append (d .done) (line ∷ []) ∙ rw (sym (first .label) ∙ no-label) (append-nil (labels (d .done)))
 
     same-values : labelValues 0 next ≡ labelValues 0 (d .done)
     unfolding labelValues
-    same-values = values-append 0 (d .done) (take (e - p) (drop p source) ∷ []) ∙ rw (sym (ap hasLabel form) ∙ no-label) (append-nil (labelValues 0 (d .done)))
+    same-values = values-append 0 (d .done) (line ∷ []) ∙ rw (sym (first .label) ∙ no-label) (append-nil (labelValues 0 (d .done)))
 
     plain-noted : LabelTable source next table′ values′ r
     plain-noted =
@@ -217,35 +189,35 @@ module _ {source table values : List ℕ} {p n m : ℕ} (d : Noting source table
           sound = d .noted .sound;
           names = d .noted .names ∙ sym same-labels;
           room = d .noted .room;
-          valued = λ k h l. d .noted .valued k h l ∙ sym (ap (λ (x : List ℕ). getD x k 0) same-values);
+          valued = λ right k h l. d .noted .valued (done-right right) k h l ∙ sym (ap (λ (x : List ℕ). getD x k 0) same-values);
         })
 
   -- .. and with one.
   module _ (label : hasLabel f ≡ true) where
-    more-labels : labels next ≡ labels (d .done) ++ (labelOf (take (e - p) (drop p source)) ∷ [])
+    more-labels : labels next ≡ labels (d .done) ++ (labelOf line ∷ [])
     unfolding labels
-    more-labels = labels-append (d .done) (take (e - p) (drop p source) ∷ []) ∙ rw (sym (ap hasLabel form) ∙ label)
+    more-labels = labels-append (d .done) (line ∷ []) ∙ rw (sym (first .label) ∙ label)
 
-    more-values : labelValues 0 next ≡ labelValues 0 (d .done) ++ (n ∷ [])
+    more-values : areRight next ≡ true → labelValues 0 next ≡ labelValues 0 (d .done) ++ (n ∷ [])
     unfolding labelValues
-    more-values =
-        let same : codeCount (d .done) ≡ n = sym (d .code) in
-        values-append 0 (d .done) (take (e - p) (drop p source) ∷ []) ∙ rw (sym (ap hasLabel form) ∙ label, zero-add, same)
+    more-values right =
+        let same : codeCount (d .done) ≡ n = sym (d .code (done-right right)) in
+        values-append 0 (d .done) (line ∷ []) ∙ rw (sym (first .label) ∙ label, zero-add, same)
 
     count : length (labelValues 0 (d .done)) ≡ m
     count = length-values 0 (d .done) ∙ sym (ap length (d .noted .names)) ∙ length-names source table m
 
-    stored : (k : ℕ) → k < m + 1 → k < mostLabels → getD (cond (ltb m mostLabels) (set values m n) values) k 0 ≡ getD (labelValues 0 next) k 0
-    stored k h l =
+    stored : areRight next ≡ true → (k : ℕ) → k < m + 1 → k < mostLabels → getD (cond (ltb m mostLabels) (set values m n) values) k 0 ≡ getD (labelValues 0 next) k 0
+    stored right k h l =
         go (ltb m mostLabels) refl (ltb k m) refl
-        ∙ sym (ap (λ (x : List ℕ). getD x k 0) more-values)
+        ∙ sym (ap (λ (x : List ℕ). getD x k 0) (more-values right))
       where
-        before : k < m → getD (labelValues 0 (d .done)) k 0 ≡ getD (labelValues 0 (d .done) ++ (n ∷ [])) k 0
-        before q = sym (List·getD-append (labelValues 0 (d .done)) (n ∷ []) 0 k (rw count q))
+        before : k < m → getD values k 0 ≡ getD (labelValues 0 (d .done) ++ (n ∷ [])) k 0
+        before q = d .noted .valued (done-right right) k q l ∙ sym (List·getD-append (labelValues 0 (d .done)) (n ∷ []) 0 k (rw count q))
 
         go : (b : Bool) → ltb m mostLabels ≡ b → (t : Bool) → ltb k m ≡ t → getD (cond b (set values m n) values) k 0 ≡ getD (labelValues 0 (d .done) ++ (n ∷ [])) k 0
-        go true q true t = let less = ltb-true k m t in getD-set-other values m k n 0 (λ x. omega arith) ∙ d .noted .valued k less l ∙ before less
-        go false q true t = let less = ltb-true k m t in d .noted .valued k less l ∙ before less
+        go true q true t = let less = ltb-true k m t in getD-set-other values m k n 0 (λ x. omega arith) ∙ before less
+        go false q true t = before (ltb-true k m t)
         go true q false t =
             let past = ltb-false k m t in
             let here : k ≡ m = omega arith in
@@ -259,9 +231,9 @@ module _ {source table values : List ℕ} {p n m : ℕ} (d : Noting source table
         rw (one .0)
         (record {
           sound = one .1;
-          names = one .2 ∙ ap (λ (x : List (List ℕ)). x ++ (labelOf (take (e - p) (drop p source)) ∷ [])) (d .noted .names) ∙ sym more-labels;
+          names = one .2 ∙ ap (λ (x : List (List ℕ)). x ++ (labelOf line ∷ [])) (d .noted .names) ∙ sym more-labels;
           room = note .sizes .1 ∙ d .noted .room;
-          valued = λ k h l. ap (λ (x : List ℕ). getD x k 0) (one .3) ∙ stored k h l;
+          valued = λ right k h l. ap (λ (x : List ℕ). getD x k 0) (one .3) ∙ stored right k h l;
         })
 
   pub one-noted : (n′ : ℕ) → n′ ≡ cond (hasCode f) (n + 1) n → Noting source table′ values′ (e + 1) n′ r

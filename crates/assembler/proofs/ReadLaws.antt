@@ -71,7 +71,7 @@ module _ {source table values t : List ℕ} {ls : List (List ℕ)} {count r : �
         let size = labels-number in
         let here : getD (labels ls) r [] ≡ t = rw (l .names) at (f .name h) in
         let among : isAmong (labels ls) t ≡ true = is-among (labels ls) t r (omega arith) here in
-        l .valued r h k ∙ sym (value-at ls t among ∙ ap (λ (p : ℕ). getD (labelValues 0 ls) p 0) (distinct-place (labels ls) t (u .distinct) r (omega arith) here))
+        l .valued (u .right) r h k ∙ sym (value-at ls t among ∙ ap (λ (p : ℕ). getD (labelValues 0 ls) p 0) (distinct-place (labels ls) t (u .distinct) r (omega arith) here))
 
     label-some : (v : ℕ) → v < 2 ^ 12 → (Usual ls → v ≡ valueOf ls t % 2 ^ 12) → ImmediateRead ls t (record { inside = true; defined = true; value = v })
     unfolding immediate

@@ -9,9 +9,9 @@ use native.Mathlib.Nat.{add-zero, zero-add}
 use lib.ListN.{length, getD, set}
 use Rattle.source.specs.Numbers.{same, number}
 use Rattle.source.specs.Lookup.{isAmong, placeOf}
-use Rattle.lines.specs.Line.{formOf, hasLabel, hasCode, hasWord, labelOf, part}
+use Rattle.lines.specs.Line.{formOf, isRight, hasLabel, hasCode, hasWord, labelOf, part}
 use Rattle.lines.specs.Ranges.{modulo}
-use Rattle.assembler.specs.Text.{codeCount, labels, linesBefore, valueOf, labelValues}
+use Rattle.assembler.specs.Text.{codeCount, labels, areRight, linesBefore, valueOf, labelValues}
 use Rattle.assembler.specs.Memories.{encoded, codeOf, stored}
 
 -- ---- two lists of lines
@@ -62,6 +62,15 @@ pub stored-append : (m : List ℕ) (a b : List (List ℕ)) → stored m (a ++ b)
 unfolding stored
 stored-append m [] b = refl
 stored-append m (l ∷ a) b = stored-append (cond (hasWord (formOf l)) (set m (modulo 12 (number (part 1 l))) (modulo 32 (number (part 2 l)))) m) a b
+
+pub right-append : (a b : List (List ℕ)) → areRight (a ++ b) ≡ (areRight a && areRight b)
+unfolding areRight
+right-append [] b = refl
+right-append (l ∷ a) b = go (isRight (formOf l)) (right-append a b)
+  where
+    go : (r : Bool) → areRight (a ++ b) ≡ (areRight a && areRight b) → (r && areRight (a ++ b)) ≡ (r && areRight a && areRight b)
+    go true e = e
+    go false e = refl
 
 -- ---- how many
 

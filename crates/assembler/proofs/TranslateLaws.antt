@@ -27,11 +27,11 @@ use Rattle.lines.specs.Line.{formOf, isRight, hasLabel, hasCode, hasWord, part,
 use Rattle.lines.specs.Ranges.{modulo}
 use Rattle.lines.specs.Asked.{isKnown, areInRange, isWordInRange}
 use Rattle.assembler.specs.declared.Statement.{Statement}
-use Rattle.assembler.specs.Text.{codeCount, labels}
+use Rattle.assembler.specs.Text.{codeCount, labels, areRight}
 use Rattle.assembler.specs.Questions.{when, isUsable, lastAddress, mostLabels, lineQuestions, textTold}
 use Rattle.assembler.specs.Memories.{encoded, codeOf, assembledImage, stored, assembledData}
 use Rattle.assembler.specs.Passes.{LabelTable, Usual, StatementRead, After, Translated}
-use Rattle.assembler.proofs.TextLaws.{labels-append, code-append, words-append, stored-append, length-words}
+use Rattle.assembler.proofs.TextLaws.{labels-append, code-append, words-append, stored-append, right-append, length-words}
 use Rattle.assembler.proofs.AskLaws.{Numbered, none-refused, one-refused}
 use Rattle.assembler.proofs.LabelLaws.{size-kept}
 
@@ -72,21 +72,22 @@ line-numbers all before line =
 
 -- The answers to those questions whose yes the memories need.
 record Passed (all before : List (List ℕ)) (line : List ℕ) (f : Form) : Type 0 where
+  right : isRight f ≡ true
   known : when (hasCode f) (isKnown f line) ≡ true
   fresh : when (hasLabel f) (not (isAmong (labels before) (labelOf line))) ≡ true
   defined : when (hasCode f) (isUsable (labels all) (operand 4 f line) && isUsable (labels all) (operand 5 f line)) ≡ true
   placed : (when (hasCode f || hasLabel f) (leb (codeCount before) lastAddress) && when (hasLabel f) (ltb (length (labels before)) mostLabels)) ≡ true
 
-seven : (a b d e g h k : Bool) → firstNo ((2, a) ∷ (3, b) ∷ (4, d) ∷ (5, e) ∷ (6, g) ∷ (7, h) ∷ (8, k) ∷ []) 0 (accepted 0) .number ≡ 0 → (d ≡ true) × (g ≡ true) × (h ≡ true) × (k ≡ true)
+seven : (a b d e g h k : Bool) → firstNo ((2, a) ∷ (3, b) ∷ (4, d) ∷ (5, e) ∷ (6, g) ∷ (7, h) ∷ (8, k) ∷ []) 0 (accepted 0) .number ≡ 0 → (b ≡ true) × (d ≡ true) × (g ≡ true) × (h ≡ true) × (k ≡ true)
 seven a b d e g h k q =
     let q2 = first-yes 2 0 a (firstNo ((3, b) ∷ (4, d) ∷ (5, e) ∷ (6, g) ∷ (7, h) ∷ (8, k) ∷ []) 0 (accepted 0)) (omega arith) q .1 in
-    let q3 = first-yes 3 0 b (firstNo ((4, d) ∷ (5, e) ∷ (6, g) ∷ (7, h) ∷ (8, k) ∷ []) 0 (accepted 0)) (omega arith) q2 .1 in
-    let q4 = first-yes 4 0 d (firstNo ((5, e) ∷ (6, g) ∷ (7, h) ∷ (8, k) ∷ []) 0 (accepted 0)) (omega arith) q3 in
+    let q3 = first-yes 3 0 b (firstNo ((4, d) ∷ (5, e) ∷ (6, g) ∷ (7, h) ∷ (8, k) ∷ []) 0 (accepted 0)) (omega arith) q2 in
+    let q4 = first-yes 4 0 d (firstNo ((5, e) ∷ (6, g) ∷ (7, h) ∷ (8, k) ∷ []) 0 (accepted 0)) (omega arith) (q3 .1) in
     let q5 = first-yes 5 0 e (firstNo ((6, g) ∷ (7, h) ∷ (8, k) ∷ []) 0 (accepted 0)) (omega arith) (q4 .1) .1 in
     let q6 = first-yes 6 0 g (firstNo ((7, h) ∷ (8, k) ∷ []) 0 (accepted 0)) (omega arith) q5 in
     let q7 = first-yes 7 0 h (firstNo ((8, k) ∷ []) 0 (accepted 0)) (omega arith) (q6 .1) in
     let q8 = first-yes 8 0 k (accepted 0) (omega arith) (q7 .1) in
-    (q4 .0, q6 .0, q7 .0, q8 .0)
+    (q3 .0, q4 .0, q6 .0, q7 .0, q8 .0)
 
 passed : (all before : List (List ℕ)) (line : List ℕ) (f : Form) → f ≡ formOf line → firstNo (lineQuestions all before line) 0 (accepted 0) .number ≡ 0 → Passed all before line f
 unfolding lineQuestions
@@ -98,7 +99,7 @@ passed all before line f form q =
     (when (hasCode g) (isUsable (labels all) (operand 4 g line) && isUsable (labels all) (operand 5 g line)))
     (when (hasCode g || hasLabel g) (leb (codeCount before) lastAddress) && when (hasLabel g) (ltb (length (labels before)) mostLabels))
     q in
-    rw form (record { known = r .0; fresh = r .1; defined = r .2; placed = r .3 })
+    rw form (record { right = r .0; known = r .1; fresh = r .2; defined = r .3; placed = r .4 })
 
 -- ---- the second pass
 
@@ -109,6 +110,7 @@ pub record Translating (source words memory : List ℕ) (p i n m : ℕ) : Type 0
   pub number : length done ≡ i
   pub code : codeCount done ≡ n
   pub count : length (labels done) ≡ m
+  pub right : areRight done ≡ true
   pub told : textTold source ≡ firstBad (λ k line. lineQuestions (lines source) (take k (lines source)) line) i (lines (drop p source)) (accepted 0)
   pub writes : Usual (lines source) → words ≡ codeOf (lines source) done ++ replicate (imageWords - n) 0
   pub stores : memory ≡ stored (replicate dataWords 0) done
@@ -120,7 +122,7 @@ pub record Translating (source words memory : List ℕ) (p i n m : ℕ) : Type 0
   pub distinct : Distinct (labels done)
 
 pub none-translated : (source words memory : List ℕ) → words ≡ replicate imageWords 0 → memory ≡ replicate dataWords 0 → Translating source words memory 0 0 0 0
-unfolding codeCount labels codeOf stored textTold
+unfolding codeCount labels areRight codeOf stored textTold
 none-translated source words memory w d =
     record {
       done = [];
@@ -128,6 +130,7 @@ none-translated source words memory w d =
       number = refl;
       code = refl;
       count = refl;
+      right = refl;
       told = refl;
       writes = λ u. w;
       stores = d;
@@ -164,7 +167,7 @@ module _ {source words memory : List ℕ} {p i n m : ℕ} (d : Translating sourc
   all-translated h =
       let none : drop p source ≡ [] = drop-of-length-le source h in
       let whole : lines source ≡ d .done = d .split ∙ ap (λ (s : List ℕ). d .done ++ lines s) none ∙ append-nil (d .done) in
-      let usual : Usual (lines source) = rw whole (record { few = rw (d .count) (d .few); distinct = d .distinct }) in
+      let usual : Usual (lines source) = rw whole (record { right = d .right; few = rw (d .count) (d .few); distinct = d .distinct }) in
       let size : length (codeOf (lines source) (d .done)) ≡ n = length-words (lines source) (d .done) ∙ d .code in
       record {
         none = λ q. d .told ∙ rw none;
@@ -262,6 +265,10 @@ module _ {source words memory : List ℕ} {p i n m : ℕ} (d : Translating sourc
             go true h = rw (h, says .address h, says .value h)
             go false h = rw h
 
+        next-right : areRight next ≡ true
+        unfolding areRight
+        next-right = right-append (d .done) (line ∷ []) ∙ rw (d .right, sym (ap isRight form) ∙ yes-all .right)
+
         next-distinct : Distinct (labels next)
         unfolding labels
         next-distinct = rw (labels-append (d .done) (line ∷ []) ∙ ap (λ (g : Form). labels (d .done) ++ cond (hasLabel g) (labelOf line ∷ []) []) (sym form)) (go (hasLabel f) refl)
@@ -302,6 +309,7 @@ module _ {source words memory : List ℕ} {p i n m : ℕ} (d : Translating sourc
               number = length-append (d .done) (line ∷ []) ∙ ap (λ (k : ℕ). k + 1) (d .number);
               code = next-code n′ c;
               count = next-count m′ l;
+              right = next-right;
               told = told-here ∙ none-refused (lineQuestions (lines source) (d .done) line) (i + 1) _ (all-numbered (lines source) (d .done) line) (sym asks ∙ q0);
               writes = next-words words′ w n′ c;
               stores = next-stores memory′ v;

@@ -20,16 +20,16 @@ use Rattle.symbols.specs.Sound.{Sound}
 use Rattle.assembler.specs.declared.Statement.{Statement}
 use Rattle.assembler.specs.declared.Immediate.{Immediate}
 use Rattle.assembler.specs.declared.Refusal.{Refusal}
-use Rattle.assembler.specs.Text.{codeCount, labels, labelValues}
+use Rattle.assembler.specs.Text.{codeCount, labels, areRight, labelValues}
 use Rattle.assembler.specs.Questions.{when, isUsable, mostLabels, textTold}
 use Rattle.assembler.specs.Memories.{immediate, encoded, assembledImage, assembledData}
 
--- A table has the labels of lines, which stand in the text `source`, and `values` has the values of the first 1,024.
+-- A table has the labels of lines, which stand in the text `source`, and `values` has the values of the first 1,024 if the lines have right forms.
 pub record LabelTable (source : List ℕ) (ls : List (List ℕ)) (table values : List ℕ) (count : ℕ) : Type 0 where
   pub sound : Sound source table count
   pub names : namesOf source table count ≡ labels ls
   pub room : length values ≡ mostLabels
-  pub valued : (k : ℕ) → k < count → k < mostLabels → getD values k 0 ≡ getD (labelValues 0 ls) k 0
+  pub valued : areRight ls ≡ true → (k : ℕ) → k < count → k < mostLabels → getD values k 0 ≡ getD (labelValues 0 ls) k 0
 
 -- The words of a table that has room for every label: a line that defines one has three bytes with its LF, but for the last.
 abbrev pub tableWords : ℕ
@@ -46,8 +46,9 @@ pub record LabelNoted (source : List ℕ) (p e : ℕ) (f : Form) (table values :
       × (p + 2 ≤ e)
   pub sizes : (length tableAfter ≡ length table) × (length valuesAfter ≡ length values)
 
--- No more labels than 1,024, and none twice, as in a good text.
+-- Lines of right forms, no more labels than 1,024, and none twice, as in a good text.
 pub record Usual (all : List (List ℕ)) : Type 0 where
+  pub right : areRight all ≡ true
   pub few : length (labels all) ≤ mostLabels
   pub distinct : (k : ℕ) → k < length (labels all) → placeOf (labels all) (getD (labels all) k []) ≡ k
 

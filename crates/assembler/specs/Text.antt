@@ -1,9 +1,9 @@
 -- The lines of a text: its instructions and its labels.
 use Prim.Native.Nat.{ℕ, suc, _+_}
-use mathlib.Core.Bool.{cond, _&&_}
+use mathlib.Core.Bool.{Bool, true, cond, _&&_}
 use mathlib.Core.List.{List, [], _∷_}
 use Rattle.source.specs.Numbers.{same}
-use Rattle.lines.specs.Line.{formOf, hasLabel, hasCode, labelOf}
+use Rattle.lines.specs.Line.{formOf, isRight, hasLabel, hasCode, labelOf}
 
 -- How many instructions lines have.
 unfoldable pub codeCount : List (List ℕ) → ℕ
@@ -14,6 +14,11 @@ codeCount (l ∷ ls) = cond (hasCode (formOf l)) (suc (codeCount ls)) (codeCount
 unfoldable pub labels : List (List ℕ) → List (List ℕ)
 labels [] = []
 labels (l ∷ ls) = cond (hasLabel (formOf l)) (labelOf l ∷ labels ls) (labels ls)
+
+-- Each line passes questions 2 and 3.
+unfoldable pub areRight : List (List ℕ) → Bool
+areRight [] = true
+areRight (l ∷ ls) = isRight (formOf l) && areRight ls
 
 -- The lines before the first one that defines a label; all of them where none does.
 unfoldable pub linesBefore : List (List ℕ) → List ℕ → List (List ℕ)

@@ -1,13 +1,13 @@
 // The first pass: the labels of a text, and their values.
 use crate::ask::MOST_LABELS;
 use lines::Form;
+use lines::forms::first_form;
 use lines::forms::has_code;
 use lines::forms::has_label;
-use lines::forms::line_form;
 use symbols::add;
 use text::lines::line_end;
 ghost use mathlib.Core.Path.{_≡_};
-ghost use mathlib.Core.Bool.{cond};
+ghost use mathlib.Core.Bool.{true, cond};
 ghost use Prim.Native.Nat.{_+_, _-_, _*_, _^_, _≤_, _<_};
 ghost use lib.Dec.{ltb};
 ghost use lib.ListN.{length, take, drop, set};
@@ -36,7 +36,7 @@ pub fn find_labels(
     let mut m = 0;
     while p < source.len() {
         let e = line_end(source, p);
-        let f = line_form(&source[p..e], places, digits);
+        let f = first_form(&source[p..e], places, digits);
         m = note_label(source, p, e, f, places, table, values, n, m);
         n = after_code(f, n);
         p = e + 1;
@@ -56,7 +56,7 @@ fn note_label(
     n: usize,
     m: usize,
 ) -> usize
-    requires { ⌜ (p ≤ e) × (e ≤ length (now source)) × (length (now source) < 2 ^ 32) × (Formed (take (e - p) (drop p (now source))) (now places) f) × (Sound (now source) (now table) m) × (entryAt (m + 1) ≤ length (now table)) × (n < 2 ^ 32) × (m + 1 < 2 ^ 32) × (length (now values) ≡ mostLabels) ⌝ }
+    requires { ⌜ (p ≤ e) × (e ≤ length (now source)) × (length (now source) < 2 ^ 32) × (hasLabel f ≡ true → Formed (take (e - p) (drop p (now source))) (now places) f) × (Sound (now source) (now table) m) × (entryAt (m + 1) ≤ length (now table)) × (n < 2 ^ 32) × (m + 1 < 2 ^ 32) × (length (now values) ≡ mostLabels) ⌝ }
     ensures { λ r. ⌜ LabelNoted (now (source .entry)) p e f (now (table .entry)) (now (values .entry)) n m r (now (table .exit)) (now (values .exit)) ⌝ }
 {
     if !has_label(f) {

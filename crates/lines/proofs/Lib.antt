@@ -1,3 +1,4 @@
 -- Laws of lines.
 pub mod FormLaws
+pub mod FirstLaws
 pub mod NameLaws

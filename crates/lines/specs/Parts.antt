@@ -1,12 +1,13 @@
 -- Where the parts of a line stand (for the code).
 use Prim.Native.Nat.{ℕ}
 use mathlib.Core.Path.{_≡_}
+use mathlib.Core.Bool.{true}
 use mathlib.Core.List.{List}
 use lib.ListN.{length}
 use Rattle.source.specs.Spans.{Placed}
 use Rattle.lines.specs.declared.Form.{Form}
 use Rattle.lines.specs.declared.Form.the-variants.{Nothing, Label, Code, Labelled, Word, Wrong}
-use Rattle.lines.specs.Line.{formOf}
+use Rattle.lines.specs.Line.{formOf, isRight, hasLabel, hasCode}
 
 -- How many tokens a line of a form has.
 abbrev pub partCount : Form → ℕ
@@ -25,4 +26,11 @@ mostPlaces = 28
 pub record Formed (line places : List ℕ) (f : Form) : Type 0 where
   pub is : f ≡ formOf line
   pub placed : Placed line places (partCount f)
+  pub room : length places ≡ mostPlaces
+
+-- f is what the first token tells of a line's form: whether it defines a label, and then all of it; else, if the form is right, whether it has an instruction.
+pub record FirstFormed (line places : List ℕ) (f : Form) : Type 0 where
+  pub label : hasLabel f ≡ hasLabel (formOf line)
+  pub formed : hasLabel f ≡ true → Formed line places f
+  pub code : isRight (formOf line) ≡ true → hasCode f ≡ hasCode (formOf line)
   pub room : length places ≡ mostPlaces

@@ -2,6 +2,7 @@
 use crate::Form;
 use source::bytes::are_right_bytes;
 use source::shapes::has_shape;
+use source::tokens::next_token;
 use source::tokens::split;
 ghost use mathlib.Core.Path.{_≡_};
 ghost use mathlib.Core.Bool.{cond};
@@ -11,7 +12,7 @@ ghost use Rattle.text.specs.Numerals.{DigitValues};
 ghost use Rattle.source.specs.Spans.{Split};
 ghost use Rattle.source.specs.Shapes.{formOf as shapeOf};
 ghost use Rattle.lines.specs.Line.{directive as directiveOf, shapes, formAt, isRight, hasLabel, hasCode, hasWord};
-ghost use Rattle.lines.specs.Parts.{partCount, mostPlaces, Formed};
+ghost use Rattle.lines.specs.Parts.{partCount, mostPlaces, Formed, FirstFormed};
 
 // Places for the start and the end of as many tokens as a line can have, and of one more.
 pub const PLACES: usize = 28;
@@ -26,6 +27,26 @@ pub fn line_form(line: &[u8], places: &mut [usize], values: &[u8; 256]) -> Form
     }
     let n = split(line, places);
     shape_form(line, places, n, values)
+}
+
+// What the first token tells of the form of a line: whether it defines a label, and then all of it; else, if the form is right, whether it has an instruction.
+pub fn first_form(line: &[u8], places: &mut [usize], values: &[u8; 256]) -> Form
+    requires { ⌜ (length (now places) ≡ mostPlaces) × DigitValues (now values) ⌝ }
+    ensures { λ r. ⌜ FirstFormed (now (line .entry)) (now (places .exit)) r ⌝ }
+{
+    let s = next_token(line, 0);
+    let start = s.start;
+    let end = s.end;
+    if end <= start {
+        return Form::Nothing;
+    }
+    if line[end - 1] == b':' {
+        return line_form(line, places, values);
+    }
+    if line[start] == b'.' {
+        return Form::Word;
+    }
+    Form::Code
 }
 
 // The form of a line that is split into n tokens, by the first shape that it has.

@@ -22,21 +22,21 @@ loop-holds c = let s = c .before .before .before .before .pre in (none-noted _ _
 line-end-requires : tie.Need-line-end-requires Inv-loop μ-loop
 line-end-requires c κs = omega arith
 
-sub-line-form : tie.Need-sub-line-form Inv-loop μ-loop
-sub-line-form c = let e = c .line-end .ensures in omega (arith, e .0)
+sub-first-form : tie.Need-sub-first-form Inv-loop μ-loop
+sub-first-form c = let e = c .line-end .ensures in omega (arith, e .0)
 
-part-line-form-start : tie.Need-part-line-form-start Inv-loop μ-loop
-part-line-form-start c = let e = c .line-end .ensures in let h : c .before .before .loop .p ≤ c .line-end .result = omega (arith, e .0) in search (needs, h)
+part-first-form-start : tie.Need-part-first-form-start Inv-loop μ-loop
+part-first-form-start c = let e = c .line-end .ensures in let h : c .before .before .loop .p ≤ c .line-end .result = omega (arith, e .0) in search (needs, h)
 
-part-line-form-end : tie.Need-part-line-form-end Inv-loop μ-loop
-part-line-form-end c = let e = c .line-end .ensures .1 in search (needs, e)
+part-first-form-end : tie.Need-part-first-form-end Inv-loop μ-loop
+part-first-form-end c = let e = c .line-end .ensures .1 in search (needs, e)
 
-line-form-requires : tie.Need-line-form-requires Inv-loop μ-loop
-line-form-requires c κs = (c .before .before .before .before .loop .inv .3, c .before .before .before .before .before .before .before .before .before .pre .5)
+first-form-requires : tie.Need-first-form-requires Inv-loop μ-loop
+first-form-requires c κs = (c .before .before .before .before .loop .inv .3, c .before .before .before .before .before .before .before .before .before .pre .5)
 
 note-label-requires : tie.Need-note-label-requires Inv-loop μ-loop
 note-label-requires c κs = let l = c .before .before .before .before .before .before .before .before .before .before .loop in let e = c .before .before .before .before .before .before .before .before .line-end .ensures in let d = l .inv .0 in
-    (omega arith, e .1, omega (arith, c .before .before .before .before .before .before .before .before .before .before .before .before .before .before .before .pre .0), c .before .before .before .before .before .line-form .ensures, d .noted .sound, omega (arith, d .few, c .before .before .before .before .before .before .before .before .before .before .before .before .before .before .before .pre .0, l .inv .2), omega (arith, d .small, c .before .before .before .before .before .before .before .before .before .before .before .before .before .before .before .pre .0), omega (arith, d .few, c .before .before .before .before .before .before .before .before .before .before .before .before .before .before .before .pre .0), d .noted .room)
+    (omega arith, e .1, omega (arith, c .before .before .before .before .before .before .before .before .before .before .before .before .before .before .before .pre .0), c .before .before .before .before .before .first-form .ensures .formed, d .noted .sound, omega (arith, d .few, c .before .before .before .before .before .before .before .before .before .before .before .before .before .before .before .pre .0, l .inv .2), omega (arith, d .small, c .before .before .before .before .before .before .before .before .before .before .before .before .before .before .before .pre .0), omega (arith, d .few, c .before .before .before .before .before .before .before .before .before .before .before .before .before .before .before .pre .0), d .noted .room)
 
 after-code-requires : tie.Need-after-code-requires Inv-loop μ-loop
 after-code-requires c κs = let l = c .before .before .before .before .before .before .before .before .before .before .before .before .before .before .before .loop in let d = l .inv .0 in omega (arith, d .small, c .before .before .before .before .before .before .before .before .before .before .before .before .before .before .before .before .before .before .before .before .pre .0)
@@ -48,8 +48,8 @@ loop-less : tie.Need-loop-less Inv-loop μ-loop
 loop-less c = let e = c .before .before .before .before .before .before .before .before .before .before .before .before .before .before .line-end .ensures in omega (arith, e .0, e .1)
 
 loop-again : tie.Need-loop-again Inv-loop μ-loop
-loop-again c = let l = c .before .before .before .before .before .before .before .before .before .before .before .before .before .before .before .before .loop in let e = c .before .before .before .before .before .before .before .before .before .before .before .before .before .before .line-end in let f = c .before .before .before .before .before .before .before .before .before .before .before .line-form in let o = c .before .before .before .before .before .note-label in
-    (one-noted (l .inv .0) (c .before .before .before .before .before .before .before .before .before .before .before .before .before .before .before .loop-test .taken) (e .result) (e .ensures .0) (f .result) (f .ensures .is) (o .result) _ _ (o .ensures) (c .after-code .result) (c .after-code .ensures), omega arith, o .ensures .sizes .0 ∙ l .inv .2, f .ensures .room)
+loop-again c = let l = c .before .before .before .before .before .before .before .before .before .before .before .before .before .before .before .before .loop in let e = c .before .before .before .before .before .before .before .before .before .before .before .before .before .before .line-end in let f = c .before .before .before .before .before .before .before .before .before .before .before .first-form in let o = c .before .before .before .before .before .note-label in
+    (one-noted (l .inv .0) (c .before .before .before .before .before .before .before .before .before .before .before .before .before .before .before .loop-test .taken) (e .result) (e .ensures .0) _ (f .result) (f .ensures) (o .result) _ _ (o .ensures) (c .after-code .result) (c .after-code .ensures), omega arith, o .ensures .sizes .0 ∙ l .inv .2, f .ensures .room)
 
 same-length : tie.Need-same-length Inv-loop μ-loop
 same-length c = c .before .loop .inv .2 ∙ sym (c .before .before .before .before .before .before .pre .2)
@@ -71,10 +71,10 @@ find-labels-spec =
     μ-loop
     loop-holds
     line-end-requires
-    sub-line-form
-    part-line-form-start
-    part-line-form-end
-    line-form-requires
+    sub-first-form
+    part-first-form-start
+    part-first-form-end
+    first-form-requires
     note-label-requires
     after-code-requires
     add-p

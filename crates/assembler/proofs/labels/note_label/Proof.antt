@@ -20,13 +20,13 @@ returns c = let none = sym (c .before .has-label .ensures) ∙ not-true _ (c .if
     record { none = λ q. (refl, refl, refl); some = λ q. absurd (false≢true (sym none ∙ q)); sizes = (refl, refl) }
 
 shared-slice-read-start : tie.Need-shared-slice-read-start
-shared-slice-read-start c = search needs
+shared-slice-read-start c = let room = c .before .before .before .before .before .before .before .pre .3 (sym (c .before .before .has-label .ensures) ∙ not-false _ (c .before .if1 .left)) .room in omega arith
 
 add-start : tie.Need-add-start
 add-start c = let s = c .before .before .before .before .before .before .before .pre in let l = label-of (s .0) (s .1) (s .3) (sym (c .before .before .has-label .ensures) ∙ not-false _ (c .before .if1 .left)) in omega (arith, l .order, l .within, s .1)
 
 shared-slice-read-end : tie.Need-shared-slice-read-end
-shared-slice-read-end c = search needs
+shared-slice-read-end c = let room = c .before .before .before .before .before .before .before .before .pre .3 (sym (c .before .before .before .has-label .ensures) ∙ not-false _ (c .before .before .if1 .left)) .room in omega arith
 
 add-end : tie.Need-add-end
 add-end c = let s = c .before .before .before .before .before .before .before .before .pre in let l = label-of (s .0) (s .1) (s .3) (sym (c .before .before .before .has-label .ensures) ∙ not-false _ (c .before .before .if1 .left)) in omega (arith, l .order, l .within, s .1)

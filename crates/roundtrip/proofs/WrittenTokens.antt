@@ -10,7 +10,7 @@ use lib.Dec.{eqb, ltb, leb}
 use lib.ListN.{length, length-append}
 use borrow.Author.Tests.{not-true, ltb-true, leb-true}
 use Rattle.text.specs.Bytes.{bytes}
-use Rattle.text.proofs.Truth.{and-left, and-right}
+use Rattle.text.proofs.Truth.{and-left, and-right, neither}
 use Rattle.text.proofs.LineLaws.{NoLF}
 use Rattle.source.specs.Bytes.{isBlank, isAllowed, all}
 use Rattle.source.specs.Tokens.{Token, closes, follows, joined, isJoined, tokensFrom, texts}
@@ -28,10 +28,6 @@ record Plain (b : ℕ) : Type 0 where
   comment : eqb b (code "#") ≡ false
   goes-on : closes b ≡ false
   follows-it : follows b ≡ true
-
-neither : (a b : Bool) → (a || b) ≡ false → (a ≡ false) × (b ≡ false)
-neither true b e = absurd (false≢true (sym e))
-neither false b e = (refl, e)
 
 plain-byte : (b : ℕ) → isPlain b ≡ true → Plain b
 plain-byte b e =

@@ -11,7 +11,7 @@ use lib.ListN.{length, getD, take, drop, drop-of-length-le, length-drop}
 use lib.Seq.{drop-cons, getD-drop, take-suc, append-snoc}
 use Rattle.source.specs.Bytes.{isBlank}
 use Rattle.source.specs.Tokens.{Token, token, closes, follows, isJoined, joined, tokensFrom}
-use Rattle.text.proofs.Truth.{and-right}
+use Rattle.text.proofs.Truth.{and-right, neither}
 use Rattle.source.specs.Spans.{Begins, StartsAt, EndsAt, TokenAt}
 
 module _ (l : List ℕ) (i : ℕ) where
@@ -100,22 +100,14 @@ grown l a i h k =
     let size = length-drop a l in
     rw one (take-suc (drop a l) (i - a) 0 (omega arith) ∙ rw (getD-drop a l (i - a) 0, place))
 
-neither-left : (a b : Bool) → (a || b) ≡ false → a ≡ false
-neither-left true b e = e
-neither-left false b e = refl
-
-neither-right : (a b : Bool) → (a || b) ≡ false → b ≡ false
-neither-right true b e = absurd (false≢true (sym e))
-neither-right false b e = e
-
 -- The byte after one that is joined to it begins as one of a token can.
 follows-begins : (b c : ℕ) (s : List ℕ) → isJoined b (c ∷ s) ≡ true → Begins c
 follows-begins b c s e =
     let f = and-right (not (closes b)) (follows c) e in
     let other = not-true (isBlank c || eqb c 44 || eqb c 35) f in
     record {
-      blank = neither-left (isBlank c) (eqb c 44) (neither-left (isBlank c || eqb c 44) (eqb c 35) other);
-      comment = neither-right (isBlank c || eqb c 44) (eqb c 35) other;
+      blank = neither (isBlank c) (eqb c 44) (neither (isBlank c || eqb c 44) (eqb c 35) other .0) .0;
+      comment = neither (isBlank c || eqb c 44) (eqb c 35) other .1;
     }
 
 -- A byte that is joined to the next is not the line's last.

@@ -1,2 +1,3 @@
 -- Laws of the C face.
-pub mod FaceLaws
+pub mod FileLaws
+pub mod AssemblyLaws

@@ -1,2 +1,4 @@
 -- The C face of the lab.
-pub mod Face
+pub mod Answers
+pub mod Files
+pub mod Assembly

@@ -1,8 +1,8 @@
--- `lab::simp_assemble` meets its contract.
-use Rattle.lab.proofs.FaceLaws.{assembles}
+-- `lab::assembly::simp_assemble` meets its contract.
+use Rattle.lab.proofs.AssemblyLaws.{assembles}
 use borrow.Author.Needs.{needs}
-use Rattle.lab.proofs.simp_assemble.Statement.{statement}
-use Rattle.lab.proofs.simp_assemble.Tie as tie
+use Rattle.lab.proofs.assembly.simp_assemble.Statement.{statement}
+use Rattle.lab.proofs.assembly.simp_assemble.Tie as tie
 
 assemble-requires : tie.Need-assemble-requires
 assemble-requires c κs = search needs

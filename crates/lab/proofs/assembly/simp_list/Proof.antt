@@ -1,8 +1,8 @@
--- `lab::simp_list` meets its contract.
-use Rattle.lab.proofs.FaceLaws.{lists}
+-- `lab::assembly::simp_list` meets its contract.
+use Rattle.lab.proofs.AssemblyLaws.{lists}
 use borrow.Author.Needs.{needs}
-use Rattle.lab.proofs.simp_list.Statement.{statement}
-use Rattle.lab.proofs.simp_list.Tie as tie
+use Rattle.lab.proofs.assembly.simp_list.Statement.{statement}
+use Rattle.lab.proofs.assembly.simp_list.Tie as tie
 
 list-requires : tie.Need-list-requires
 list-requires c κs = search needs

@@ -1,22 +1,15 @@
--- What the C face promises: the number returned, the place and the counts written, and each lent memory after the call.
+-- What the C face promises of assembly text: the number returned, the place and the count written, and each lent memory after the call.
 use Prim.Native.Nat.{ℕ, _^_}
 use mathlib.Core.Path.{_≡_}
 use mathlib.Core.List.{List}
 use lib.ListN.{length}
-use Rattle.text.specs.Questions.{Told as ToldOf, unlessRefused}
+use Rattle.text.specs.Questions.{unlessRefused}
 use Rattle.text.specs.Ranges.{Below}
 use Rattle.text.specs.Place.{put}
 use Rattle.assembler.specs.Questions.{assembleTold}
 use Rattle.assembler.specs.Memories.{assembledImage, assembledData}
 use Rattle.lister.specs.Listing.{listing}
 use Rattle.lister.specs.Calls.{listTold}
-use Rattle.lab.specs.declared.Answer.{Answer}
-
--- An answer in numbers is what a call tells.
-pub record Told (r : Answer) (t : ToldOf) : Type 0 where
-  pub number : r .number ≡ t .number
-  pub place : r .place ≡ t .place
-  pub count : r .count ≡ t .count
 
 -- `simp_assemble` returns r.
 pub record Assembles (source image memory : List ℕ) (r : ℕ) (imageAfter memoryAfter : List ℕ) (place : ℕ) : Type 0 where
@@ -29,6 +22,6 @@ pub record Assembles (source image memory : List ℕ) (r : ℕ) (imageAfter memo
 -- `simp_list` returns r.
 pub record Lists (words text : List ℕ) (r : ℕ) (textAfter : List ℕ) (count place : ℕ) : Type 0 where
   pub number : r ≡ listTold words (length text) .number
-  pub length-of : count ≡ listTold words (length text) .count
+  pub byte-count : count ≡ listTold words (length text) .count
   pub word : place ≡ listTold words (length text) .place
   pub bytes : textAfter ≡ unlessRefused (listTold words (length text)) (put text 0 (listing words)) text

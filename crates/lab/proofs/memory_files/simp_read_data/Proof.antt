@@ -1,0 +1,21 @@
+-- `lab::memory_files::simp_read_data` meets its contract.
+use Rattle.lab.proofs.FileLaws.{reads}
+use borrow.Author.Needs.{needs}
+use Rattle.lab.proofs.memory_files.simp_read_data.Statement.{statement}
+use Rattle.lab.proofs.memory_files.simp_read_data.Tie as tie
+
+read-data-requires : tie.Need-read-data-requires
+read-data-requires c κs = search needs
+
+file-answer-requires : tie.Need-file-answer-requires
+file-answer-requires c κs = search needs
+
+same-length : tie.Need-same-length
+same-length c = search needs
+
+returns : tie.Need-returns
+returns c = reads (c .before .before .before .read-data .ensures) (c .file-answer .ensures)
+
+pub simp-read-data-spec : {M : Type 1} → statement M
+simp-read-data-spec =
+    tie.close (tie.spec read-data-requires file-answer-requires same-length returns)

@@ -1,0 +1,21 @@
+-- `lab::memory_files::simp_read_disk` meets its contract.
+use Rattle.lab.proofs.FileLaws.{reads}
+use borrow.Author.Needs.{needs}
+use Rattle.lab.proofs.memory_files.simp_read_disk.Statement.{statement}
+use Rattle.lab.proofs.memory_files.simp_read_disk.Tie as tie
+
+read-disk-requires : tie.Need-read-disk-requires
+read-disk-requires c κs = search needs
+
+file-answer-requires : tie.Need-file-answer-requires
+file-answer-requires c κs = search needs
+
+same-length : tie.Need-same-length
+same-length c = search needs
+
+returns : tie.Need-returns
+returns c = reads (c .before .before .before .read-disk .ensures) (c .file-answer .ensures)
+
+pub simp-read-disk-spec : {M : Type 1} → statement M
+simp-read-disk-spec =
+    tie.close (tie.spec read-disk-requires file-answer-requires same-length returns)

@@ -1,0 +1,21 @@
+-- `lab::memory_files::simp_read_frame` meets its contract.
+use Rattle.lab.proofs.FileLaws.{reads}
+use borrow.Author.Needs.{needs}
+use Rattle.lab.proofs.memory_files.simp_read_frame.Statement.{statement}
+use Rattle.lab.proofs.memory_files.simp_read_frame.Tie as tie
+
+read-frame-requires : tie.Need-read-frame-requires
+read-frame-requires c κs = search needs
+
+file-answer-requires : tie.Need-file-answer-requires
+file-answer-requires c κs = search needs
+
+same-length : tie.Need-same-length
+same-length c = search needs
+
+returns : tie.Need-returns
+returns c = reads (c .before .before .before .read-frame .ensures) (c .file-answer .ensures)
+
+pub simp-read-frame-spec : {M : Type 1} → statement M
+simp-read-frame-spec =
+    tie.close (tie.spec read-frame-requires file-answer-requires same-length returns)

@@ -1,0 +1,98 @@
+// What each answer tells, in numbers.
+use crate::Answer;
+use assembler::Assembled;
+use files::CyclesRead;
+use files::FileRead;
+use files::Written;
+use lister::Listed;
+ghost use Rattle.text.specs.Questions.{accepted, refused};
+ghost use Rattle.files.specs.Answers.{fileReadTold, cyclesReadTold, writtenTold};
+ghost use Rattle.assembler.specs.Answers.{assembledTold};
+ghost use Rattle.lister.specs.Calls.{listedTold};
+ghost use Rattle.lab.specs.Answers.{Tells};
+
+// What reading a memory file tells.
+pub fn file_answer(a: FileRead) -> Answer
+    ensures { λ r. ⌜ Tells r (fileReadTold a) ⌝ }
+{
+    match a {
+        FileRead::Filled => told(0, 0),
+        FileRead::WrongLength => told(1, 0),
+        FileRead::NoWord(line) => told(10, line),
+        FileRead::BadDigits(line) => told(9, line),
+    }
+}
+
+// What reading an irq2 file tells.
+pub fn cycles_answer(a: CyclesRead) -> Answer
+    ensures { λ r. ⌜ Tells r (cyclesReadTold a) ⌝ }
+{
+    match a {
+        CyclesRead::Cycles(count) => counted(count),
+        CyclesRead::NoWord(line) => told(10, line),
+        CyclesRead::BadCycle(line) => told(11, line),
+        CyclesRead::NotRising(line) => told(12, line),
+    }
+}
+
+// What writing a memory file tells.
+pub fn written_answer(a: Written) -> Answer
+    ensures { λ r. ⌜ Tells r (writtenTold a) ⌝ }
+{
+    match a {
+        Written::Bytes(count) => counted(count),
+        Written::WrongLength => told(1, 0),
+        Written::NoRoom => told(15, 0),
+    }
+}
+
+// What assembling tells.
+pub fn assembled_answer(a: Assembled) -> Answer
+    ensures { λ r. ⌜ Tells r (assembledTold a) ⌝ }
+{
+    match a {
+        Assembled::Done => told(0, 0),
+        Assembled::WrongLength => told(1, 0),
+        Assembled::BadBytes(line) => told(2, line),
+        Assembled::WrongForm(line) => told(3, line),
+        Assembled::UnknownName(line) => told(4, line),
+        Assembled::OutOfRange(line) => told(5, line),
+        Assembled::DefinedBefore(line) => told(6, line),
+        Assembled::Undefined(line) => told(7, line),
+        Assembled::NoPlace(line) => told(8, line),
+    }
+}
+
+// What listing tells.
+pub fn listed_answer(a: Listed) -> Answer
+    ensures { λ r. ⌜ Tells r (listedTold a) ⌝ }
+{
+    match a {
+        Listed::Bytes(count) => counted(count),
+        Listed::WrongLength => told(1, 0),
+        Listed::UnknownOpcode(word) => told(16, word),
+        Listed::NoRoom => told(15, 0),
+    }
+}
+
+// A number with its place, and no count.
+fn told(number: u32, place: usize) -> Answer
+    ensures { λ r. ⌜ Tells r (refused number place) ⌝ }
+{
+    Answer {
+        number: number,
+        place: place as u64,
+        count: 0,
+    }
+}
+
+// A yes with a count.
+fn counted(count: usize) -> Answer
+    ensures { λ r. ⌜ Tells r (accepted count) ⌝ }
+{
+    Answer {
+        number: 0,
+        place: 0,
+        count: count as u64,
+    }
+}

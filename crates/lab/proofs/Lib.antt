@@ -1,3 +1,5 @@
 -- Laws of the C face.
 pub mod FileLaws
 pub mod AssemblyLaws
+pub mod NumberLaws
+pub mod RecordLaws

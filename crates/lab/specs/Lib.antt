@@ -2,3 +2,5 @@
 pub mod Answers
 pub mod Files
 pub mod Assembly
+pub mod Numbers
+pub mod Records

@@ -5,11 +5,17 @@ use files::CyclesRead;
 use files::FileRead;
 use files::Written;
 use lister::Listed;
+use saved::LoadAnswer;
+use saved::Saved;
 ghost use Rattle.text.specs.Questions.{accepted, refused};
 ghost use Rattle.files.specs.Answers.{fileReadTold, cyclesReadTold, writtenTold};
 ghost use Rattle.assembler.specs.Answers.{assembledTold};
 ghost use Rattle.lister.specs.Calls.{listedTold};
+ghost use Rattle.saved.specs.Answers.{savedTold, loadedTold};
 ghost use Rattle.lab.specs.Answers.{Tells};
+
+// Question 1's number: a lent length is wrong.
+pub const WRONG_LENGTH: u32 = 1;
 
 // What reading a memory file tells.
 pub fn file_answer(a: FileRead) -> Answer
@@ -17,7 +23,7 @@ pub fn file_answer(a: FileRead) -> Answer
 {
     match a {
         FileRead::Filled => told(0, 0),
-        FileRead::WrongLength => told(1, 0),
+        FileRead::WrongLength => told(WRONG_LENGTH, 0),
         FileRead::NoWord(line) => told(10, line),
         FileRead::BadDigits(line) => told(9, line),
     }
@@ -41,7 +47,7 @@ pub fn written_answer(a: Written) -> Answer
 {
     match a {
         Written::Bytes(count) => counted(count),
-        Written::WrongLength => told(1, 0),
+        Written::WrongLength => told(WRONG_LENGTH, 0),
         Written::NoRoom => told(15, 0),
     }
 }
@@ -52,7 +58,7 @@ pub fn assembled_answer(a: Assembled) -> Answer
 {
     match a {
         Assembled::Done => told(0, 0),
-        Assembled::WrongLength => told(1, 0),
+        Assembled::WrongLength => told(WRONG_LENGTH, 0),
         Assembled::BadBytes(line) => told(2, line),
         Assembled::WrongForm(line) => told(3, line),
         Assembled::UnknownName(line) => told(4, line),
@@ -69,9 +75,32 @@ pub fn listed_answer(a: Listed) -> Answer
 {
     match a {
         Listed::Bytes(count) => counted(count),
-        Listed::WrongLength => told(1, 0),
+        Listed::WrongLength => told(WRONG_LENGTH, 0),
         Listed::UnknownOpcode(word) => told(16, word),
         Listed::NoRoom => told(15, 0),
+    }
+}
+
+// What saving a record tells.
+pub fn saved_answer(a: Saved) -> Answer
+    ensures { λ r. ⌜ Tells r (savedTold a) ⌝ }
+{
+    match a {
+        Saved::Done => told(0, 0),
+        Saved::WrongLength => told(WRONG_LENGTH, 0),
+        Saved::Unsound => told(13, 0),
+    }
+}
+
+// What reading a record tells.
+pub fn loaded_answer(a: LoadAnswer) -> Answer
+    ensures { λ r. ⌜ Tells r (loadedTold a) ⌝ }
+{
+    match a {
+        LoadAnswer::Loaded => told(0, 0),
+        LoadAnswer::WrongLength => told(WRONG_LENGTH, 0),
+        LoadAnswer::OtherEdition => told(14, 0),
+        LoadAnswer::Unsound => told(13, 0),
     }
 }
 

@@ -3,6 +3,8 @@
 mod answers;
 mod assembly;
 mod memory_files;
+mod numbers;
+mod records;
 
 pub use assembly::simp_assemble;
 pub use assembly::simp_list;
@@ -15,6 +17,8 @@ pub use memory_files::simp_write_data;
 pub use memory_files::simp_write_disk;
 pub use memory_files::simp_write_frame;
 pub use memory_files::simp_write_image;
+pub use records::simp_load;
+pub use records::simp_save;
 
 // What a call tells: document 01's number, the place and the count.
 pub struct Answer {

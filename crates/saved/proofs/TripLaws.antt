@@ -35,7 +35,7 @@ record-back r h i =
     }
 
 -- The record of fields that begin with the edition has them again.
-fields-again : (f : List ℕ) → length f ≡ 42 → getD f 0 0 ≡ 1 → fieldsOf (recordOf f) ≡ f
+pub fields-again : (f : List ℕ) → length f ≡ 42 → getD f 0 0 ≡ 1 → fieldsOf (recordOf f) ≡ f
 unfolding recordOf fieldsOf
 fields-again [] h e = absurd (omega arith)
 fields-again (a ∷ []) h e = absurd (omega arith)

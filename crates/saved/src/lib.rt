@@ -2,9 +2,9 @@
 use machine::Record;
 
 mod copies;
-mod fields;
+pub mod fields;
 mod fresh;
-mod layout;
+pub mod layout;
 mod loading;
 mod saving;
 mod sound;

@@ -3,3 +3,4 @@ pub mod FileLaws
 pub mod AssemblyLaws
 pub mod NumberLaws
 pub mod RecordLaws
+pub mod RunLaws

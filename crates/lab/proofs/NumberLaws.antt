@@ -1,6 +1,6 @@
 -- A record and its 38 numbers: each undoes the other, and both are the saved fields without the edition and those of 0 bits. Assumes nothing.
 use Prim.Native.Nat.{ℕ, zero, suc, _-_}
-use mathlib.Core.Path.{_≡_, refl, sym, _∙_, ap, subst⁻¹}
+use mathlib.Core.Path.{_≡_, refl, _∙_, ap, subst⁻¹}
 use mathlib.Core.Bool.{true, false}
 use mathlib.Core.List.{List, [], _∷_, _++_, append-nil}
 use native.Mathlib.Omega.{arith}
@@ -9,8 +9,7 @@ use lib.Seq.{length-take-le, take-all, take-at, drop-at}
 use Rattle.bitpack.specs.Packed.{fit}
 use Rattle.isa.specs.Registers.{ioBits}
 use Rattle.machine.specs.declared.Record.{Record}
-use Rattle.saved.specs.Layout.{widths, fieldsOf}
-use Rattle.saved.specs.Layout.{recordOf as fieldRecord}
+use Rattle.saved.specs.Layout.{widths, fieldsOf, recordOf as fieldRecord}
 use Rattle.saved.specs.Sound.{isSound}
 use Rattle.saved.proofs.SoundTest.{sound-yes, sound-lengths, unfit-unsound}
 use Rattle.saved.proofs.TripLaws.{fields-again}
@@ -31,7 +30,7 @@ element-by-element (suc k) [] e = absurd (omega arith)
 element-by-element (suc k) (x ∷ l) e = ap (λ (t : List ℕ). x ∷ t) (element-by-element k l (omega arith))
 
 -- What holds of every list that is k elements, one by one, holds of a list of length k.
-listed : (P : List ℕ → Type 0) (k : ℕ) (l : List ℕ) → length l ≡ k → P (elements k l) → P l
+pub listed : (P : List ℕ → Type 0) (k : ℕ) (l : List ℕ) → length l ≡ k → P (elements k l) → P l
 listed P k l e p = subst⁻¹ P (element-by-element k l e) p
 
 -- ---- numbers and fields

@@ -4,3 +4,4 @@ pub mod Files
 pub mod Assembly
 pub mod Numbers
 pub mod Records
+pub mod Runs

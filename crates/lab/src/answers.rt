@@ -5,13 +5,16 @@ use files::CyclesRead;
 use files::FileRead;
 use files::Written;
 use lister::Listed;
+use runner::RunAnswer;
 use saved::LoadAnswer;
 use saved::Saved;
+ghost use mathlib.Core.Path.{_≡_};
 ghost use Rattle.text.specs.Questions.{accepted, refused};
 ghost use Rattle.files.specs.Answers.{fileReadTold, cyclesReadTold, writtenTold};
 ghost use Rattle.assembler.specs.Answers.{assembledTold};
 ghost use Rattle.lister.specs.Calls.{listedTold};
 ghost use Rattle.saved.specs.Answers.{savedTold, loadedTold};
+ghost use Rattle.runner.specs.Answers.{ranTold, ranReason};
 ghost use Rattle.lab.specs.Answers.{Tells};
 
 // Question 1's number: a lent length is wrong.
@@ -101,6 +104,36 @@ pub fn loaded_answer(a: LoadAnswer) -> Answer
         LoadAnswer::WrongLength => told(WRONG_LENGTH, 0),
         LoadAnswer::OtherEdition => told(14, 0),
         LoadAnswer::Unsound => told(13, 0),
+    }
+}
+
+// What a run tells.
+pub fn ran_answer(a: RunAnswer) -> Answer
+    ensures { λ r. ⌜ Tells r (ranTold a) ⌝ }
+{
+    match a {
+        RunAnswer::BudgetSpent => told(0, 0),
+        RunAnswer::Stopped => told(0, 0),
+        RunAnswer::LogFull => told(0, 0),
+        RunAnswer::AtLimit => told(0, 0),
+        RunAnswer::WrongLength => told(WRONG_LENGTH, 0),
+        RunAnswer::NotRising => told(12, 0),
+        RunAnswer::Unsound => told(13, 0),
+    }
+}
+
+// Why a run ended; 0 where it is refused.
+pub fn ran_reason(a: RunAnswer) -> u64
+    ensures { λ r. ⌜ r ≡ ranReason a ⌝ }
+{
+    match a {
+        RunAnswer::BudgetSpent => 0,
+        RunAnswer::Stopped => 1,
+        RunAnswer::LogFull => 2,
+        RunAnswer::AtLimit => 3,
+        RunAnswer::WrongLength => 0,
+        RunAnswer::NotRising => 0,
+        RunAnswer::Unsound => 0,
     }
 }
 

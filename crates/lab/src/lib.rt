@@ -5,6 +5,7 @@ mod assembly;
 mod memory_files;
 mod numbers;
 mod records;
+mod runs;
 
 pub use assembly::simp_assemble;
 pub use assembly::simp_list;
@@ -19,6 +20,7 @@ pub use memory_files::simp_write_frame;
 pub use memory_files::simp_write_image;
 pub use records::simp_load;
 pub use records::simp_save;
+pub use runs::simp_run;
 
 // What a call tells: document 01's number, the place and the count.
 pub struct Answer {

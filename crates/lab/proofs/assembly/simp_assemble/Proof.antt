@@ -1,6 +1,6 @@
 -- `lab::assembly::simp_assemble` meets its contract.
-use Rattle.lab.proofs.AssemblyLaws.{assembles}
 use borrow.Author.Needs.{needs}
+use Rattle.lab.proofs.AssemblyLaws.{assembles}
 use Rattle.lab.proofs.assembly.simp_assemble.Statement.{statement}
 use Rattle.lab.proofs.assembly.simp_assemble.Tie as tie
 

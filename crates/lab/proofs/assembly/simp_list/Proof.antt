@@ -1,6 +1,6 @@
 -- `lab::assembly::simp_list` meets its contract.
-use Rattle.lab.proofs.AssemblyLaws.{lists}
 use borrow.Author.Needs.{needs}
+use Rattle.lab.proofs.AssemblyLaws.{lists}
 use Rattle.lab.proofs.assembly.simp_list.Statement.{statement}
 use Rattle.lab.proofs.assembly.simp_list.Tie as tie
 

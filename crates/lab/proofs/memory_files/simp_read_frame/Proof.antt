@@ -1,6 +1,6 @@
 -- `lab::memory_files::simp_read_frame` meets its contract.
-use Rattle.lab.proofs.FileLaws.{reads}
 use borrow.Author.Needs.{needs}
+use Rattle.lab.proofs.FileLaws.{reads}
 use Rattle.lab.proofs.memory_files.simp_read_frame.Statement.{statement}
 use Rattle.lab.proofs.memory_files.simp_read_frame.Tie as tie
 

@@ -1,6 +1,6 @@
 -- `lab::memory_files::simp_read_irq2` meets its contract.
-use Rattle.lab.proofs.FileLaws.{reads-cycles}
 use borrow.Author.Needs.{needs}
+use Rattle.lab.proofs.FileLaws.{reads-cycles}
 use Rattle.lab.proofs.memory_files.simp_read_irq2.Statement.{statement}
 use Rattle.lab.proofs.memory_files.simp_read_irq2.Tie as tie
 

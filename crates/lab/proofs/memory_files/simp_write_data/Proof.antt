@@ -1,6 +1,6 @@
 -- `lab::memory_files::simp_write_data` meets its contract.
-use Rattle.lab.proofs.FileLaws.{writes}
 use borrow.Author.Needs.{needs}
+use Rattle.lab.proofs.FileLaws.{writes}
 use Rattle.lab.proofs.memory_files.simp_write_data.Statement.{statement}
 use Rattle.lab.proofs.memory_files.simp_write_data.Tie as tie
 

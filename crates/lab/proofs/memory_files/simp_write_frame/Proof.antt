@@ -1,6 +1,6 @@
 -- `lab::memory_files::simp_write_frame` meets its contract.
-use Rattle.lab.proofs.FileLaws.{writes}
 use borrow.Author.Needs.{needs}
+use Rattle.lab.proofs.FileLaws.{writes}
 use Rattle.lab.proofs.memory_files.simp_write_frame.Statement.{statement}
 use Rattle.lab.proofs.memory_files.simp_write_frame.Tie as tie
 

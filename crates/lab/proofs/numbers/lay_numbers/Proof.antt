@@ -1,10 +1,10 @@
 -- `lab::numbers::lay_numbers` meets its contract.
-use mathlib.Core.Path.{_≡_, refl, sym, _∙_}
+use mathlib.Core.Path.{_≡_, sym, _∙_}
 use native.Mathlib.Omega.{arith}
-use lib.ListN.{length, length-drop, drop, take}
+use lib.ListN.{length, length-drop, drop}
 use lib.Seq.{length-take-le}
-use Rattle.lab.proofs.NumberLaws.{laid-numbers, fields-numbers}
 use borrow.Author.Needs.{needs}
+use Rattle.lab.proofs.NumberLaws.{laid-numbers, fields-numbers}
 use Rattle.lab.proofs.numbers.lay_numbers.Statement.{statement}
 use Rattle.lab.proofs.numbers.lay_numbers.Tie as tie
 

@@ -1,19 +1,17 @@
 -- `lab::numbers::record_of` meets its contract.
-use mathlib.Core.Path.{ap}
+use Prim.Native.Nat.{ℕ}
+use mathlib.Core.Path.{ap, _≡_, sym, _∙_}
 use mathlib.Core.List.{List, [], _∷_}
 use mathlib.Core.Logic.{inl, inr}
-use Prim.Native.Nat.{ℕ}
-use lib.ListN.{length-append}
+use native.Mathlib.Omega.{arith}
+use lib.ListN.{length-append, length}
+use lib.Seq.{length-take-le}
 use borrow.Author.Tests.{not-true, not-false}
+use borrow.Author.Needs.{needs}
 use Rattle.isa.specs.Registers.{ioBits}
 use Rattle.bitpack.specs.Packed.{fit}
 use Rattle.saved.specs.Layout.{widths, recordOf}
 use Rattle.lab.proofs.NumberLaws.{laid-fields, fields-length, same-record, too-wide}
-use mathlib.Core.Path.{_≡_, refl, sym, _∙_}
-use native.Mathlib.Omega.{arith}
-use lib.ListN.{length, length-drop, drop, take}
-use lib.Seq.{length-take-le}
-use borrow.Author.Needs.{needs}
 use Rattle.lab.proofs.numbers.record_of.Statement.{statement}
 use Rattle.lab.proofs.numbers.record_of.Tie as tie
 

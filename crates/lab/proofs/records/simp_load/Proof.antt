@@ -1,7 +1,7 @@
 -- `lab::records::simp_load` meets its contract.
 use borrow.Author.Tests.{eq-eqb, ne-eqb}
-use Rattle.lab.proofs.RecordLaws.{loads-wrong, loads}
 use borrow.Author.Needs.{needs}
+use Rattle.lab.proofs.RecordLaws.{loads-wrong, loads}
 use Rattle.lab.proofs.records.simp_load.Statement.{statement}
 use Rattle.lab.proofs.records.simp_load.Tie as tie
 

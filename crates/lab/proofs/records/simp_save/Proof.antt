@@ -1,7 +1,7 @@
 -- `lab::records::simp_save` meets its contract.
 use borrow.Author.Tests.{eq-eqb, ne-eqb}
-use Rattle.lab.proofs.RecordLaws.{saves-wrong, saves}
 use borrow.Author.Needs.{needs}
+use Rattle.lab.proofs.RecordLaws.{saves-wrong, saves}
 use Rattle.lab.proofs.records.simp_save.Statement.{statement}
 use Rattle.lab.proofs.records.simp_save.Tie as tie
 

@@ -1,0 +1,77 @@
+//! Random choices from a seed, and how many turns a test makes.
+
+/// Marsaglia's xorshift of 64 bits.
+#[derive(Clone)]
+pub struct Random(u64);
+
+impl Random {
+    pub fn new(seed: u64) -> Random {
+        let mut r = Random(seed.wrapping_mul(0x9E37_79B9_7F4A_7C15) | 1);
+        for _ in 0..8 {
+            r.next();
+        }
+        r
+    }
+
+    pub fn next(&mut self) -> u64 {
+        self.0 ^= self.0 << 13;
+        self.0 ^= self.0 >> 7;
+        self.0 ^= self.0 << 17;
+        self.0
+    }
+
+    /// A number below n.
+    pub fn below(&mut self, n: u64) -> u64 {
+        self.next() % n
+    }
+
+    /// Once in n times.
+    pub fn once_in(&mut self, n: u64) -> bool {
+        self.below(n) == 0
+    }
+
+    /// One of these.
+    pub fn one<'a, T: ?Sized>(&mut self, of: &[&'a T]) -> &'a T {
+        of[self.below(of.len() as u64) as usize]
+    }
+
+    /// A value with few bits as often as one with many.
+    pub fn any(&mut self, most_bits: u32) -> u64 {
+        let bits = self.below(most_bits as u64 + 1) as u32;
+        if bits == 0 {
+            0
+        } else {
+            self.next() >> (64 - bits)
+        }
+    }
+
+    /// Damages some bytes of a text now and then: changed, cut off or added.
+    pub fn damage(&mut self, text: &mut Vec<u8>, with: &[u8]) {
+        if !self.once_in(3) {
+            return;
+        }
+        for _ in 0..=self.below(3) {
+            let at = self.below(text.len() as u64 + 1) as usize;
+            let byte = if self.once_in(3) { self.next() as u8 } else { with[self.below(with.len() as u64) as usize] };
+            match self.below(3) {
+                0 if at < text.len() => text[at] = byte,
+                1 if at < text.len() => {
+                    text.remove(at);
+                }
+                _ => text.insert(at, byte),
+            }
+        }
+    }
+}
+
+/// Makes a test's turns, each with its seed: as many as TURNS says, or `usual`; from SEED on, if it is given. A turn that fails says how to repeat it.
+pub fn turns(usual: u64, name: &str, turn: impl Fn(u64) + std::panic::RefUnwindSafe) {
+    let number = |key: &str, else_: u64| std::env::var(key).ok().map_or(else_, |v| v.parse().expect("a number"));
+    let (first, count) = (number("SEED", 1), number("TURNS", usual));
+    for seed in first..first + count {
+        if let Err(failure) = std::panic::catch_unwind(|| turn(seed)) {
+            eprintln!("seed {seed} fails; again: SEED={seed} TURNS=1 cargo test --release -p face {name}");
+            std::panic::resume_unwind(failure);
+        }
+    }
+}

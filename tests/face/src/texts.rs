@@ -1,0 +1,198 @@
+//! Random texts: assembly, memory files, irq2 files; good for the most part.
+
+use crate::random::Random;
+use reference::names::{OPS, REGISTERS};
+
+const IMMEDIATES: [&str; 12] = ["0", "1", "-1", "7", "2047", "4095", "-2048", "0xFFF", "0x7ff", "-0", "0000000012", "0x00000ABC"];
+const DATA: [&str; 9] = ["0", "-1", "5", "4294967295", "-2147483648", "0xFFFFFFFF", "0x80000000", "2147483647", "0xabcDEF01"];
+const NO_NUMBERS: [&str; 14] = ["4096", "-2049", "0x1000", "4294967296", "-2147483649", "0X1", "12345678901", "0x123456789", "+1", "--1", "-0x1", "0x", "-", "1a"];
+
+fn number(r: &mut Random, good: &[&'static str]) -> &'static str {
+    if r.once_in(80) {
+        r.one(&NO_NUMBERS)
+    } else {
+        r.one(good)
+    }
+}
+
+fn immediate(r: &mut Random, labels: u64) -> String {
+    if labels > 0 && r.once_in(2) {
+        let n = if r.once_in(100) { labels } else { r.below(labels) };
+        format!("L{n}")
+    } else {
+        number(r, &IMMEDIATES).to_string()
+    }
+}
+
+fn blanks(r: &mut Random) -> &'static str {
+    if r.once_in(4) {
+        r.one(&["  ", "\t", "\r", " \t "])
+    } else {
+        r.one(&["", " "])
+    }
+}
+
+fn register(r: &mut Random) -> &'static str {
+    if r.once_in(150) {
+        r.one(&["$t3", "$T0", "$15", "$", "zero", "$fp"])
+    } else {
+        r.one(&REGISTERS)
+    }
+}
+
+fn instruction(r: &mut Random, labels: u64) -> String {
+    let op = if r.once_in(80) { r.one(&["foo", "ADD", "9add", "mul"]) } else { r.one(&OPS) };
+    let mut line = format!("{op}{} ", blanks(r));
+    for _ in 0..4 {
+        line += &format!("{}{},{}", register(r), blanks(r), blanks(r));
+    }
+    line + &format!("{},{}{}", immediate(r, labels), blanks(r), immediate(r, labels))
+}
+
+/// An assembly text of up to some lines.
+pub fn assembly(r: &mut Random, most_lines: u64) -> Vec<u8> {
+    let (labels, lines) = (r.below(10), r.below(most_lines));
+    let mut next = 0;
+    let mut text = String::new();
+    for _ in 0..lines {
+        if next < labels && r.once_in(3) {
+            let n = if r.once_in(60) { 0 } else { next };
+            next += 1;
+            text += &format!("{}L{n}:{}", blanks(r), if r.once_in(2) { "\n" } else { blanks(r) });
+        }
+        text += &match r.below(6) {
+            0 => format!(".word {}{} {}", number(r, &["0", "1", "4095", "0xFFF", "-0"]), blanks(r), number(r, &DATA)),
+            1 => blanks(r).to_string(),
+            _ => instruction(r, labels),
+        };
+        if r.once_in(4) {
+            text += "# a comment: L9: .word";
+        }
+        text += "\n";
+    }
+    for n in next..labels {
+        text += &format!("L{n}:\n");
+    }
+    let mut bytes = text.into_bytes();
+    r.damage(&mut bytes, b" \t\r,:#$-0x1aL.\n");
+    if r.once_in(4) {
+        bytes.pop();
+    }
+    bytes
+}
+
+/// A memory file of so many digits a line and up to `most` lines.
+pub fn memory_file(r: &mut Random, digits: usize, most: u64) -> Vec<u8> {
+    let lines = if r.once_in(4) { most + r.below(3) } else { r.below(most + 1).min(r.below(200)) };
+    let mut text = Vec::new();
+    for _ in 0..lines {
+        for _ in 0..digits {
+            text.push(b"0123456789ABCDEFabcdef"[r.below(22) as usize]);
+        }
+        text.push(b'\n');
+    }
+    r.damage(&mut text, b"0aG \n\r");
+    if r.once_in(3) {
+        text.pop();
+    }
+    text
+}
+
+/// An irq2 file.
+pub fn irq2_file(r: &mut Random) -> Vec<u8> {
+    let mut text = Vec::new();
+    let mut cycle = 0;
+    for _ in 0..r.below(20) {
+        cycle += if r.once_in(40) { 0 } else { 1 + r.any(36) };
+        let zeros = if r.once_in(5) { "00" } else { "" };
+        text.extend_from_slice(format!("{zeros}{cycle}\n").as_bytes());
+    }
+    if r.once_in(10) {
+        text.extend_from_slice(r.one(&["1099511627774\n", "1099511627775\n", "10000000000000\n", "\n"]).as_bytes());
+    }
+    r.damage(&mut text, b"0198 \n\r-");
+    if r.once_in(3) {
+        text.pop();
+    }
+    text
+}
+
+/// The words of a random program: mostly known opcodes, small addresses and I/O numbers, so that it runs for some cycles.
+pub fn program(r: &mut Random, length: usize) -> Vec<u64> {
+    let mut image = vec![0; 4096];
+    for (at, word) in image.iter_mut().enumerate().take(length) {
+        let op = match r.below(40) {
+            0 => r.below(256),
+            1..=9 => 19 + r.below(2),
+            10..=15 => 16 + r.below(2),
+            _ => r.below(19),
+        };
+        let near = (at as u64 + r.below(6)) % 4096;
+        let imm = |r: &mut Random| match r.below(6) {
+            0 => r.below(4096),
+            1 => near,
+            2 => r.one(&[&0u64, &1, &2, &0xFFF, &0x800, &0x7FF]) + 0,
+            _ => r.below(23),
+        };
+        // Addresses are often immediates, so that few cycles fault.
+        let (rs, rt) = if r.once_in(3) { (r.below(16), r.below(16)) } else { (1 + r.below(2), 0) };
+        let (rd, rm) = (r.below(16), if (9..=15).contains(&op) { 1 + r.below(2) } else { r.below(16) });
+        *word = op << 40 | rd << 36 | rs << 32 | rt << 28 | rm << 24 | imm(r) << 12 | imm(r);
+        if r.once_in(4) {
+            *word |= r.next() << 48;
+        }
+    }
+    image
+}
+
+/// A record, sound for the most part, with interrupts, timer and disk at work.
+pub fn record(r: &mut Random) -> [u64; 38] {
+    let mut n = [0u64; 38];
+    if r.once_in(8) {
+        return n;
+    }
+    n[0] = if r.once_in(12) { r.below(6) } else { 0 };
+    n[1] = r.below(2);
+    n[2] = if r.once_in(2) { r.below(64) } else { r.below(4096) };
+    n[3] = match r.below(8) {
+        0 => (1 << 40) - 1 - r.below(6),
+        1 => r.next() >> 24,
+        _ => r.below(3000),
+    };
+    for i in 5..18 {
+        n[i] = r.any(32);
+    }
+    let widths = [1, 1, 1, 1, 1, 1, 12, 12, 32, 32, 32, 1, 32, 32, 0, 7, 12, 0, 16, 8];
+    for (i, bits) in widths.iter().enumerate() {
+        n[18 + i] = r.any(*bits).min((1u64 << bits) - 1);
+    }
+    if r.once_in(3) {
+        n[31] = n[30];
+    }
+    if r.once_in(3) {
+        (n[4], n[32], n[35]) = (1 + r.below(1024), 1 + r.below(2), 1);
+        if r.once_in(2) {
+            n[4] = 1 + r.below(8);
+        }
+    }
+    if r.once_in(10) {
+        let at = r.below(38) as usize;
+        n[at] = r.any(64);
+    }
+    n
+}
+
+/// A rising list of irq2 cycles near an age, now and then not rising.
+pub fn irq2(r: &mut Random, age: u64) -> Vec<u64> {
+    let mut list = Vec::new();
+    let mut cycle = age.saturating_sub(r.below(10));
+    for _ in 0..r.below(12) {
+        cycle = cycle.saturating_add(1 + r.below(9));
+        list.push(cycle);
+    }
+    if list.len() > 1 && r.once_in(25) {
+        let at = 1 + r.below(list.len() as u64 - 1) as usize;
+        list[at] = list[at - 1];
+    }
+    list
+}

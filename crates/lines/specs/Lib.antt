@@ -4,3 +4,4 @@ pub mod Parts
 pub mod Ranges
 pub mod Asked
 pub mod Names
+pub mod Examples

@@ -21,6 +21,23 @@ signed-immediates : map signedDecimal (0 ∷ 0x7FF ∷ 0x800 ∷ 0xFFF ∷ []) �
 unfolding signedDecimal decimal digits digitCount digitCountUpTo
 signed-immediates = refl
 
+-- A whole line: immediates FFF and 800 are negative, 7FF is not.
+signed-lines : map listedLine (0x103456FFF800 ∷ 0x110EF9FFE7FF ∷ [])
+    ≡ bytes "lw $v0, $a0, $a1, $a2, -1, -2048" ∷ bytes "sw $zero, $sp, $ra, $t2, -2, 2047" ∷ []
+unfolding listedLine separated signedDecimal decimal digits digitCount digitCountUpTo operationName registerName
+signed-lines = refl
+
+-- The longest line: an op of four letters, `$zero` four times and -2048 twice. It has 45 bytes, and its LF.
+longest-lines : map listedLine (0x120000800800 ∷ 0x150000800800 ∷ [])
+    ≡ bytes "reti $zero, $zero, $zero, $zero, -2048, -2048" ∷ bytes "halt $zero, $zero, $zero, $zero, -2048, -2048" ∷ []
+unfolding listedLine separated signedDecimal decimal digits digitCount digitCountUpTo operationName registerName
+longest-lines = refl
+
+longest-lengths : length (listedLine 0x120000800800) ∷ length (listing (0x120000800800 ∷ [])) ∷ length (listing (0x120000800800 ∷ 0x150000800800 ∷ [])) ∷ []
+    ≡ 45 ∷ 46 ∷ 92 ∷ []
+unfolding listing unlines listedLine separated signedDecimal decimal digits digitCount digitCountUpTo operationName registerName
+longest-lengths = refl
+
 -- An LF also after the last line.
 two-lines : listing (0x150000000000 ∷ 0 ∷ []) ≡ bytes "halt $zero, $zero, $zero, $zero, 0, 0\nadd $zero, $zero, $zero, $zero, 0, 0\n"
 unfolding listing unlines listedLine separated signedDecimal decimal digits digitCount digitCountUpTo operationName registerName

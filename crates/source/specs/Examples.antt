@@ -1,4 +1,4 @@
--- Lines and their shapes, computed: the decided open points A2 to A15, with the shapes of document 01's dialect.
+-- Bytes, tokens, numbers and names, computed: the decided open points A4 to A11 as far as they need no dialect.
 use Prim.Native.Nat.{ℕ}
 use Prim.Native.String.{String}
 use mathlib.Core.Path.{_≡_, refl}
@@ -8,69 +8,110 @@ use lib.ListN.{replicate}
 use Rattle.text.specs.Bytes.{bytes}
 use Rattle.text.specs.Numerals.{allDigits, value}
 use Rattle.source.specs.declared.Number.the-variants.{Decimal, Minus, Hexadecimal, NoNumber}
-use Rattle.source.specs.Bytes.{all, areRightBytes}
+use Rattle.source.specs.Bytes.{isAllowed, all, areRightBytes}
 use Rattle.source.specs.Tokens.{token, tokensFrom, tokens, texts}
 use Rattle.source.specs.Numbers.{same, number}
 use Rattle.source.specs.Names.{isName, isRegister, isDefinition}
+use Rattle.source.specs.Lookup.{isAmong, placeOf}
 use Rattle.source.specs.Shapes.{fits, matches, firstShape}
 
--- "A line is an optional `label:`, an optional instruction, an optional `#` comment; or `.word address data` and a comment. Instruction: `op rd, rs, rt,
--- rm, imm1, imm2`."
-shapes : List (List ℕ)
-shapes = bytes "" ∷ bytes ":" ∷ bytes "o$,$,$,$,i,i" ∷ bytes ":o$,$,$,$,i,i" ∷ bytes ".00" ∷ []
+-- ---- bytes
 
-unfoldable shapeOf : String → ℕ
-unfolding shapes tokensFrom same number isName isRegister isDefinition fits matches firstShape all allDigits value
-shapeOf line = firstShape (bytes ".word") shapes (texts (tokens (bytes line)))
+-- A6: blanks are space, tab and CR; the other bytes that are allowed run from 33 to 126. NUL, VT, FF, DEL and bytes from 128 are not.
+allowed : map isAllowed (32 ∷ 9 ∷ 13 ∷ 33 ∷ 126 ∷ 0 ∷ 8 ∷ 10 ∷ 11 ∷ 12 ∷ 14 ∷ 31 ∷ 127 ∷ 128 ∷ 255 ∷ []) ≡ replicate 5 true ++ replicate 10 false
+allowed = refl
+
+-- 500 bytes, 501, and the 501st a CR; a byte that is not allowed in a comment.
+right-bytes : map areRightBytes
+    (bytes "add # ~" ∷ replicate 500 35 ∷ replicate 501 35 ∷ (replicate 499 35 ++ bytes "\r") ∷ (replicate 500 35 ++ bytes "\r") ∷ (35 ∷ 11 ∷ [])
+    ∷ (0xEF ∷ 0xBB ∷ 0xBF ∷ []) ∷ [])
+    ≡ true ∷ true ∷ false ∷ true ∷ false ∷ false ∷ false ∷ []
+unfolding areRightBytes all
+right-bytes = refl
 
 -- ---- tokens
 
 -- Their places; a colon ends a token, a comma is one, `#` ends the line.
-places : tokens (bytes "L:sub $t1,$imm1 # L2:") ≡ token 0 (bytes "L:") ∷ token 2 (bytes "sub") ∷ token 6 (bytes "$t1") ∷ token 9 (bytes ",") ∷ token 10 (bytes "$imm1") ∷ []
+places : tokens (bytes "L:sub $t1,$imm1 # L2:")
+    ≡ token 0 (bytes "L:") ∷ token 2 (bytes "sub") ∷ token 6 (bytes "$t1") ∷ token 9 (bytes ",") ∷ token 10 (bytes "$imm1") ∷ []
 unfolding tokensFrom
 places = refl
 
+-- Blanks stand around them, in front and behind too; between two tokens one is enough, of any kind.
+blanks : map (λ (line : String). texts (tokens (bytes line))) (" a\tb \r c " ∷ "a\rb\tc" ∷ "\t" ∷ [])
+    ≡ (bytes "a" ∷ bytes "b" ∷ bytes "c" ∷ []) ∷ (bytes "a" ∷ bytes "b" ∷ bytes "c" ∷ []) ∷ [] ∷ []
+unfolding tokensFrom
+blanks = refl
+
+-- A4: a blank before the colon makes it a token of its own, and so does a second colon.
+colons : map (λ (line : String). texts (tokens (bytes line))) ("L:" ∷ "L :" ∷ "L::" ∷ [])
+    ≡ (bytes "L:" ∷ []) ∷ (bytes "L" ∷ bytes ":" ∷ []) ∷ (bytes "L:" ∷ bytes ":" ∷ []) ∷ []
+unfolding tokensFrom
+colons = refl
+
 -- ---- numbers
 
--- A7, A8, A9: no 0X, no sign but `-` and none before 0x, `-0` is a number, leading zeros up to ten digits (eight); no more.
-numbers : map (λ (s : String). number (bytes s)) ("4095" ∷ "-2048" ∷ "-0" ∷ "0xFf" ∷ "0000000001" ∷ "0x00000001" ∷ [])
-    ≡ Decimal 4095 ∷ Minus 2048 ∷ Minus 0 ∷ Hexadecimal 255 ∷ Decimal 1 ∷ Hexadecimal 1 ∷ []
+-- A7, A8: digits of either case after `0x`; `-0` is a number; `-` is not among the ten digits; leading zeros up to ten digits (eight), and no octal.
+numbers : map (λ (s : String). number (bytes s))
+    ("4095" ∷ "-2048" ∷ "-0" ∷ "-1234567890" ∷ "0xFf" ∷ "0xABCDEF09" ∷ "0000000001" ∷ "0x00000001" ∷ "010" ∷ "9999999999" ∷ [])
+    ≡ Decimal 4095 ∷ Minus 2048 ∷ Minus 0 ∷ Minus 1234567890 ∷ Hexadecimal 255 ∷ Hexadecimal 2882400009 ∷ Decimal 1 ∷ Hexadecimal 1 ∷ Decimal 10
+    ∷ Decimal 9999999999 ∷ []
 unfolding number same allDigits value
 numbers = refl
 
-no-numbers : map (λ (s : String). number (bytes s)) ("0X1" ∷ "0x" ∷ "0x123456789" ∷ "-0x1" ∷ "+1" ∷ "--1" ∷ "-" ∷ "12345678901" ∷ "00000000001" ∷ "1a" ∷ "" ∷ [])
-    ≡ replicate 11 NoNumber
+-- A7, A8, A9: no `0X`, no sign but `-` and none before `0x`; no digits, or more than ten (eight).
+no-numbers : map (λ (s : String). number (bytes s))
+    ("0X1" ∷ "0x" ∷ "0x123456789" ∷ "0xG" ∷ "-0x1" ∷ "+1" ∷ "--1" ∷ "-" ∷ "1-" ∷ "12345678901" ∷ "00000000001" ∷ "-12345678901" ∷ "1a" ∷ "A0" ∷ ""
+    ∷ [])
+    ≡ replicate 15 NoNumber
 unfolding number same allDigits value
 no-numbers = refl
 
--- ---- shapes
+-- ---- names
 
--- Empty lines and comments; labels alone; instructions with and without a label; `.word`, with its comment optional (A2).
-good : map shapeOf
-    ("" ∷ " \t\r" ∷ "# add" ∷ "L:" ∷ "add: # A13" ∷ "sub $t1, $imm1, $imm2, $imm2, 2, 3" ∷ "halt\t$zero,$zero,$zero,$zero,0,0#c" ∷ "L:beq $zero, $a0, $a1, $imm1, L, 0"
-    ∷ "L: add $q, $1, $T0, $aVeryLongNameOfARegisterThatNoTableHasButThatHasTheForm, A0, x10" ∷ ".word 0x100 -1" ∷ ".word 1 2#c" ∷ [])
-    ≡ 0 ∷ 0 ∷ 0 ∷ 1 ∷ 1 ∷ 2 ∷ 2 ∷ 3 ∷ 3 ∷ 4 ∷ 4 ∷ []
-unfolding shapeOf
-good = refl
+-- A10, A13: a letter, then letters or digits; the names of ops, and what looks like a hexadecimal number.
+names : map (λ (s : String). isName (bytes s)) ("L" ∷ "add" ∷ "A0" ∷ "x10" ∷ "9add" ∷ "a_b" ∷ "$t0" ∷ "L:" ∷ "" ∷ [])
+    ≡ replicate 4 true ++ replicate 5 false
+unfolding isName all
+names = refl
 
--- A3: a label before `.word`, two labels. A4: `L :`, `L::`. A5: no blank after the op, `.word`, its address. A8: `- 1`. A10: `9add`, `foo` alone. A12: a label in
--- `.word`, `L:` as an immediate. A14: operands missing, a comma after the op or at the end. A15: `.WORD`. A11: `$` alone.
-wrong : map shapeOf
-    ("L: .word 1 2" ∷ "L: M:" ∷ "L :" ∷ "L::" ∷ "add$t0, $t1, $t2, $t0, 0, 0" ∷ ".word1 2" ∷ ".word 12" ∷ ".word - 1 2" ∷ "9add $t0, $t1, $t2, $t0, 0, 0" ∷ "foo" ∷ ".word L 1"
-    ∷ "add $t0, $t1, $t2, $t0, L:, 0" ∷ "halt" ∷ "add , $t0, $t1, $t2, $t0, 0, 0" ∷ "add $t0, $t1, $t2, $t0, 0, 0," ∷ ".WORD 1 2" ∷ "add $, $t1, $t2, $t0, 0, 0" ∷ [])
-    ≡ replicate 17 5
-unfolding shapeOf
-wrong = refl
-
--- "50 at most": a label of 50 letters, and of 51.
-letters : map isDefinition ((replicate 50 65 ++ bytes ":") ∷ (replicate 51 65 ++ bytes ":") ∷ []) ≡ true ∷ false ∷ []
+-- A9, A10: "50 at most", of a label that is used, of an op, and of a label that is defined.
+letters : map isName (replicate 50 65 ∷ replicate 51 65 ∷ []) ++ map isDefinition
+    ((replicate 50 65 ++ bytes ":") ∷ (replicate 51 65 ++ bytes ":") ∷ [])
+    ≡ true ∷ false ∷ true ∷ false ∷ []
 unfolding isDefinition isName all
 letters = refl
 
--- ---- bytes
+-- A definition is a name and its colon.
+definitions : map (λ (s : String). isDefinition (bytes s)) ("L:" ∷ "add:" ∷ "L" ∷ ":" ∷ "9:" ∷ "$t0:" ∷ []) ≡ true ∷ true ∷ replicate 4 false
+unfolding isDefinition isName all
+definitions = refl
 
--- A6: VT, FF, NUL, DEL and bytes from 127 are not allowed, in a comment neither; 500 bytes are, 501 are not.
-right-bytes : map areRightBytes (bytes "add # ~" ∷ replicate 500 35 ∷ replicate 501 35 ∷ (35 ∷ 11 ∷ []) ∷ (12 ∷ []) ∷ (0 ∷ []) ∷ (127 ∷ []) ∷ (0xEF ∷ 0xBB ∷ 0xBF ∷ []) ∷ [])
-    ≡ true ∷ true ∷ false ∷ false ∷ false ∷ false ∷ false ∷ false ∷ []
-unfolding areRightBytes all
-right-bytes = refl
+-- A11: `$` and one or more letters or digits, with no upper length.
+registers : map isRegister
+    (bytes "$t0" ∷ bytes "$0" ∷ bytes "$15" ∷ bytes "$T0" ∷ (bytes "$" ++ replicate 60 97) ∷ bytes "$" ∷ bytes "t0" ∷ bytes "$$" ∷ bytes "$t_0" ∷ [])
+    ≡ replicate 5 true ++ replicate 4 false
+unfolding isRegister all
+registers = refl
+
+-- A15: "Names are case-sensitive". Of a name that stands twice the first place counts; one that isn't there has the place after the last.
+lookup : map (placeOf (bytes "l" ∷ bytes "L" ∷ bytes "LL" ∷ bytes "L" ∷ [])) (bytes "l" ∷ bytes "L" ∷ bytes "LL" ∷ bytes "ll" ∷ [])
+    ≡ 0 ∷ 1 ∷ 2 ∷ 4 ∷ []
+unfolding placeOf same
+lookup = refl
+
+among : map (isAmong (bytes "l" ∷ bytes "LL" ∷ [])) (bytes "l" ∷ bytes "L" ∷ bytes "LL" ∷ bytes "" ∷ []) ≡ true ∷ false ∷ true ∷ false ∷ []
+unfolding isAmong same
+among = refl
+
+-- ---- shapes
+
+-- A small dialect: an empty line, a label, `op register, immediate`, and `.at` with a number. A line that has none of these shapes gets their count.
+shapes : List (List ℕ)
+shapes = bytes "" ∷ bytes ":" ∷ bytes "o$,i" ∷ bytes ".0" ∷ []
+
+dialect : map (λ (line : String). firstShape (bytes ".at") shapes (texts (tokens (bytes line))))
+    ("" ∷ "# c" ∷ "L:" ∷ "set $a, 0x10" ∷ "set $a, L" ∷ ".at 16" ∷ "set $a" ∷ "set $a, $b" ∷ "set a, 1" ∷ ".at L" ∷ ".to 16" ∷ "L: .at 16" ∷ [])
+    ≡ 0 ∷ 0 ∷ 1 ∷ 2 ∷ 2 ∷ 3 ∷ replicate 6 4
+unfolding shapes tokensFrom same number isName isRegister isDefinition fits matches firstShape all allDigits value
+dialect = refl

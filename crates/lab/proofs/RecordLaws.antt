@@ -11,10 +11,12 @@ use Rattle.machine.specs.declared.Record.{Record}
 use Rattle.saved.specs.Calls.{saveTold, saveBytes, loadTold, loadRecord}
 use Rattle.saved.specs.Layout.{savedBytes}
 use Rattle.saved.specs.Sound.{isSound}
+use Rattle.saved.proofs.TripLaws.{load-save}
 use Rattle.lab.specs.declared.Answer.{Answer}
 use Rattle.lab.specs.Answers.{Tells}
 use Rattle.lab.specs.Numbers.{recordNumbers, recordOf, numbersOf, StandsFor}
 use Rattle.lab.specs.Records.{Saves, Loads}
+use Rattle.lab.proofs.NumberLaws.{numbers-again}
 
 -- ---- saving
 
@@ -59,3 +61,7 @@ loads e p q t =
       number = rw e (t .number ∙ ap (λ (x : Told). x .number) (p .0));
       record-is = rw e (q ∙ ap numbersOf (p .1));
     }
+
+-- The numbers of a sound record read back from its bytes.
+pub numbers-back : (numbers : List ℕ) → length numbers ≡ recordNumbers → isSound (recordOf numbers) ≡ true → numbersOf (loadRecord (savedBytes (recordOf numbers))) ≡ numbers
+numbers-back numbers e s = ap numbersOf (load-save (recordOf numbers) s) ∙ numbers-again numbers e

@@ -1,0 +1,115 @@
+/* The SIMP lab from C. Link with liblab.a, which `rt staticlib lab` makes.
+ *
+ * Every function returns 0 where it accepts, or the number of the question that it answers with no:
+ *
+ *    0  accepted
+ *    1  a lent length, or the part of the disk, is not one that the function takes
+ *    2  a line of assembly text has more than 500 bytes, or a byte that is no blank (space, tab, CR) and not from 33 to 126
+ *    3  a line has none of the forms of assembly text
+ *    4  an op or a register is unknown
+ *    5  a number is out of range
+ *    6  a label is defined on an earlier line
+ *    7  a label that is used is defined on no line
+ *    8  no address is left (above 4095), or the label is not among the first 1,024
+ *    9  a line of a memory file has not the right hexadecimal digits
+ *   10  no word is left in the memory for this line
+ *   11  a line of an irq2 file is no cycle: 1 to 13 decimal digits, below 2^40 - 1
+ *   12  the irq2 cycles are not strictly rising
+ *   13  the record is not sound
+ *   14  the saved record is not of edition 1
+ *   15  the text does not fit the lent bytes
+ *   16  a word has an opcode above 21
+ *
+ * A function that refuses leaves every lent memory as it was; simp_load and simp_run say what becomes of the record and of the report then. A place
+ * and a count are written in both cases: `place` is the line, from 1, or the listed word, from 0, that is refused, and 0 where it is neither; a count is 0
+ * where the function refuses.
+ *
+ * A memory is lent as a pointer, aligned for its type, and its count of elements. No pointer may be null, even where the count is 0, and no two
+ * memories that are lent to one call may overlap.
+ *
+ * The memories: an instruction image is 4,096 words, of which the low 48 bits are read; a data memory 4,096 words; a disk 16,384 words, which are
+ * 128 sectors of 128; a frame 65,536 bytes.
+ *
+ * A record is 38 numbers: status, handler flag, PC, age, left, R3 to R15, I/O registers 0 to 17, 20, 21. 38 zeros are the fresh record. A number
+ * that is too wide for its field makes the record unsound.
+ */
+#ifndef SIMP_H
+#define SIMP_H
+
+#include <stddef.h>
+#include <stdint.h>
+
+#ifdef __cplusplus
+extern "C" {
+#endif
+
+/* Reads an instruction file, 12 hexadecimal digits a line, into an image of 4,096 words; words without a line become 0. Writes the image and `place`.
+ * Returns 0, 1, 9 or 10. */
+uint32_t simp_read_image(const uint8_t *text, size_t text_len, uint64_t *image, size_t image_len, uint64_t *place);
+
+/* Reads a file of data, 8 hexadecimal digits a line, into a data memory of 4,096 words; words without a line become 0. Writes the memory and `place`.
+ * Returns 0, 1, 9 or 10. */
+uint32_t simp_read_data(const uint8_t *text, size_t text_len, uint32_t *memory, size_t memory_len, uint64_t *place);
+
+/* Reads a file of disk words, 8 hexadecimal digits a line, into a part of the disk: 1 to 128 whole sectors, so 128 to 16,384 words and a multiple of
+ * 128; words without a line become 0. Writes the part and `place`. Returns 0, 1, 9 or 10. */
+uint32_t simp_read_disk(const uint8_t *text, size_t text_len, uint32_t *part, size_t part_len, uint64_t *place);
+
+/* Reads a file of the frame, 2 hexadecimal digits a line, into a frame of 65,536 bytes; bytes without a line become 0. Writes the frame and `place`.
+ * Returns 0, 1, 9 or 10. */
+uint32_t simp_read_frame(const uint8_t *text, size_t text_len, uint8_t *frame, size_t frame_len, uint64_t *place);
+
+/* Reads an irq2 file, one decimal cycle a line, into the front of a list of any length. Writes as many cycles as there are lines, `count`, which is how
+ * many, and `place`; the list after them is left as it was. Returns 0, 10, 11 or 12. */
+uint32_t simp_read_irq2(const uint8_t *text, size_t text_len, uint64_t *cycles, size_t cycles_len, uint64_t *count, uint64_t *place);
+
+/* Writes an image of 4,096 words as text, the low 48 bits of each word as 12 hexadecimal digits and an LF: 53,248 bytes at the front of `text`, which
+ * may be longer. Writes these and `count`, which is how many. Returns 0, 1 or 15. */
+uint32_t simp_write_image(const uint64_t *image, size_t image_len, uint8_t *text, size_t text_len, uint64_t *count);
+
+/* Writes a data memory of 4,096 words as text, 8 hexadecimal digits and an LF for each word: 36,864 bytes at the front of `text`, which may be longer.
+ * Writes these and `count`, which is how many. Returns 0, 1 or 15. */
+uint32_t simp_write_data(const uint32_t *memory, size_t memory_len, uint8_t *text, size_t text_len, uint64_t *count);
+
+/* Writes so many sectors, at least one, of a disk of 16,384 words, from sector `first` on, as text, 8 hexadecimal digits and an LF for each word: 1,152
+ * bytes a sector at the front of `text`, which may be longer. Writes these and `count`, which is how many. Returns 0, 1 or 15. */
+uint32_t simp_write_disk(const uint32_t *disk, size_t disk_len, uint64_t first, uint64_t sectors, uint8_t *text, size_t text_len, uint64_t *count);
+
+/* Writes a frame of 65,536 bytes as text, 2 hexadecimal digits and an LF for each byte: 196,608 bytes at the front of `text`, which may be longer.
+ * Writes these and `count`, which is how many. Returns 0, 1 or 15. */
+uint32_t simp_write_frame(const uint8_t *frame, size_t frame_len, uint8_t *text, size_t text_len, uint64_t *count);
+
+/* Assembles a text of at most 262,144 bytes into an image of 4,096 words and a data memory of 4,096 words; what the text does not set becomes 0.
+ * Writes the image, the memory and `place`. Returns 0 to 8. It needs about 1.5 MB of stack. */
+uint32_t simp_assemble(const uint8_t *source, size_t source_len, uint64_t *image, size_t image_len, uint32_t *memory, size_t memory_len, uint64_t *place);
+
+/* Lists at most 4,096 instruction words as assembly text, a line for each, at the front of `text`, which may be longer. Writes these bytes, `count`,
+ * which is how many, and `place`. Returns 0, 1, 15 or 16. */
+uint32_t simp_list(const uint64_t *words, size_t words_len, uint8_t *text, size_t text_len, uint64_t *count, uint64_t *place);
+
+/* Saves a record, 38 numbers, in 91 bytes. Writes the bytes. Returns 0, 1 or 13. */
+uint32_t simp_save(const uint64_t *record, size_t record_len, uint8_t *bytes, size_t bytes_len);
+
+/* Reads a saved record of 91 bytes into the 38 numbers of a record. Writes the numbers: where it refuses, 38 zeros, the fresh record, unless there
+ * are not 38 of them. Returns 0, 1, 13 or 14. */
+uint32_t simp_load(const uint8_t *bytes, size_t bytes_len, uint64_t *record, size_t record_len);
+
+/* Runs the machine of a record, 38 numbers, on an image of 4,096 words, a data memory of 4,096 words, a disk of 16,384 words and a frame of 65,536 bytes,
+ * for at most `budget` cycles. `irq2` has the cycles, strictly rising, at which irq2status rises; it may have any length, and so may `log`. Writes the
+ * record, the memory, the disk, the frame, the front of `log` and `report`, which is 3 numbers: cycles made, log bytes written, and the reason:
+ *
+ *    0  the budget is spent
+ *    1  the machine has stopped: its status is not 0
+ *    2  the lines of the next cycle don't fit the rest of the log
+ *    3  the machine is at the cycle limit, age 2^40 - 1
+ *
+ * Where it refuses, the record is left as it was and the report is 0 0 0, unless there are not 3 numbers of it. Returns 0, 1, 12 or 13. */
+uint32_t simp_run(uint64_t *record, size_t record_len, const uint64_t *image, size_t image_len, uint32_t *memory, size_t memory_len,
+                  uint32_t *disk, size_t disk_len, uint8_t *frame, size_t frame_len, const uint64_t *irq2, size_t irq2_len,
+                  uint64_t budget, uint8_t *log, size_t log_len, uint64_t *report, size_t report_len);
+
+#ifdef __cplusplus
+}
+#endif
+
+#endif

@@ -1,0 +1,78 @@
+-- The line of a refusal, as the code lays its pieces, and how long they are. Assumes nothing.
+use Prim.Native.Nat.{ℕ, _+_, _^_, _≤_, _<_}
+use mathlib.Core.Path.{_≡_, refl, sym, _∙_, ap}
+use mathlib.Core.Bool.{false}
+use mathlib.Core.List.{List, [], _∷_, _++_}
+use native.Mathlib.Nat.{add-zero}
+use native.Mathlib.Omega.{arith}
+use lib.ListN.{length, List·getD-eq-default}
+use lib.ListN.{length, set, getD, length-append}
+use lib.Dec.{eqb}
+use Rattle.text.specs.Bytes.{bytes}
+use Rattle.text.specs.Lines.{LF}
+use Rattle.text.specs.Numerals.{digitCount, decimal}
+use Rattle.text.specs.Place.{put}
+use Rattle.text.proofs.DecimalLaws.{length-decimal, count-le}
+use Rattle.text.proofs.PieceLaws.{more}
+use Rattle.text.proofs.PutLaws.{put-nil, put-one}
+use Rattle.console.specs.Refusals.{sentence, sentences, hasLine, counted, placeText, refusalLine}
+
+-- ---- a count
+
+-- A number of 64 bits has at most 20 digits.
+pub few : (v : ℕ) → v < 2 ^ 64 → digitCount 10 v ≤ 20
+few v h = count-le 10 (omega arith) 19 v (omega arith)
+
+pub length-counted : (kind : List ℕ) (n : ℕ) → length (counted kind n) ≡ length kind + digitCount 10 n + 2
+length-counted kind n = simp (length-append, length-decimal) (omega arith)
+
+pub counted-laid : (kind : List ℕ) (n at p q : ℕ) (d e f g : List ℕ) → p ≡ at + length kind → q ≡ p + digitCount 10 n
+    → e ≡ put d at kind → f ≡ put e p (decimal n) → g ≡ put f q (bytes ": ")
+    → g ≡ put d at (counted kind n)
+counted-laid kind n at p q d e f g pe qe first second third =
+    more d f g at q (kind ++ decimal n) _ (simp (length-append, length-decimal) (omega arith))
+    (more d e f at p kind _ pe first second)
+    third
+
+-- ---- the words of a number
+
+-- A number that has no words lays nothing.
+pub nothing-laid : (out : List ℕ) (at : ℕ) (words : List ℕ) → words ≡ [] → (out ≡ put out at words) × (at ≡ at + length words)
+nothing-laid out at words e = rw e (sym (put-nil out at), sym (add-zero at))
+
+pub none-first : (n : ℕ) → n < 1 → sentence n ≡ []
+unfolding sentence
+none-first n h = let first : n ≡ 0 = omega arith in ap sentence first
+
+pub none-above : (n : ℕ) → 17 ≤ n → sentence n ≡ []
+unfolding sentence sentences
+none-above n h = List·getD-eq-default sentences [] h
+
+-- ---- the place
+
+pub no-place : (number place : ℕ) → eqb number 16 ≡ false → hasLine number place ≡ false → placeText number place ≡ []
+unfolding placeText
+no-place number place other none = simp (other, none)
+
+-- ---- the line
+
+pub line-laid : (file : List ℕ) (number place p q r s t : ℕ) (d e f g h k : List ℕ)
+    → p ≡ 0 + length file → q ≡ p + 2 → r ≡ q + length (placeText number place)
+    → s ≡ r + length (counted [] number) → t ≡ s + length (sentence number)
+    → e ≡ put d 0 file → f ≡ put e p (bytes ": ") → g ≡ put f q (placeText number place)
+    → h ≡ put g r (counted [] number) → k ≡ put h s (sentence number)
+    → (set k t LF ≡ put d 0 (refusalLine file number place)) × (t + 1 ≡ length (refusalLine file number place))
+unfolding refusalLine
+line-laid file number place p q r s t d e f g h k pe qe re se te first second third fourth fifth =
+    let colon = file ++ bytes ": " in
+    let placed = colon ++ placeText number place in
+    let numbered = placed ++ counted [] number in (
+      more d k _ 0 t (numbered ++ sentence number) _ (simp (length-append, length-decimal) (omega (arith, length-counted [] number)))
+          (more d h k 0 s numbered _ (simp (length-append, length-decimal) (omega (arith, length-counted [] number)))
+          (more d g h 0 r placed _ (simp length-append (omega arith))
+          (more d f g 0 q colon _ (simp length-append (omega arith)) (more d e f 0 p file _ pe first second) third)
+          fourth)
+          fifth)
+          (sym (put-one k t LF)),
+      simp (length-append, length-decimal) (omega (arith, length-counted [] number)),
+    )

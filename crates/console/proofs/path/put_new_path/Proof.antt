@@ -1,0 +1,48 @@
+-- `console::path::put_new_path` meets its contract.
+use mathlib.Core.Path.{sym}
+use Prim.Native.Nat.{_≤_}
+use lib.ListN.{length}
+use lib.Seq.{length-take-le}
+use native.Mathlib.Omega.{arith}
+use borrow.Author.Needs.{needs}
+use Rattle.console.proofs.path.put_new_path.Statement.{statement}
+use Rattle.console.proofs.path.put_new_path.Tie as tie
+
+returns : tie.Need-returns
+returns c = search needs
+
+sub-if2 : tie.Need-sub-if2
+sub-if2 c = search needs
+
+returns-2 : tie.Need-returns-2
+returns-2 c = search needs
+
+put-bytes-requires : tie.Need-put-bytes-requires
+put-bytes-requires c κs = search needs
+
+slice-aggregate-put-bytes : tie.Need-slice-aggregate-put-bytes
+slice-aggregate-put-bytes c = search needs
+
+put-bytes-requires-2 : tie.Need-put-bytes-requires-2
+put-bytes-requires-2 c κs = search needs
+
+same-length : tie.Need-same-length
+same-length c = search needs
+
+returns-3 : tie.Need-returns-3
+returns-3 c =
+    let fits : c .before .before .put-bytes2 .result ≤ length (c .before .before .put-bytes2 .last .0) = omega (arith, c .before .before .put-bytes2 .ensures .1, c .before .before .put-bytes2 .kept .0, c .before .before .before .before .before .before .before .put-bytes .ensures .1, c .before .before .before .before .before .before .before .put-bytes .kept .0, c .before .before .before .before .before .before .before .before .before .if2 .left, c .before .before .before .before .before .before .before .before .before .before .if1 .left) in
+    (fits, sym (length-take-le _ _ fits))
+
+pub put-new-path-spec : {M : Type 1} → statement M
+put-new-path-spec =
+    tie.close
+    (tie.spec
+    returns
+    sub-if2
+    returns-2
+    put-bytes-requires
+    slice-aggregate-put-bytes
+    put-bytes-requires-2
+    same-length
+    returns-3)

@@ -1,0 +1,69 @@
+-- The line that is said of a refusal: the file, the line or the word, document 01's number, and its question in words.
+use Prim.Native.Nat.{ℕ}
+use mathlib.Core.Bool.{Bool, cond, _&&_}
+use mathlib.Core.List.{List, [], _∷_, _++_}
+use lib.Dec.{eqb, leb, ltb}
+use lib.ListN.{getD}
+use Rattle.text.specs.Bytes.{bytes}
+use Rattle.text.specs.Lines.{LF}
+use Rattle.text.specs.Numerals.{decimal}
+
+-- What is wrong, for each number: the number is the place in this list.
+unfoldable pub sentences : List (List ℕ)
+sentences =
+    []
+    -- "are the lent lengths those above (source up to 262,144 bytes ..)? 1"
+    ∷ bytes "the length is wrong (a program has at most 262144 bytes)"
+    -- "at most 500 bytes before the LF or the end, all blanks or 33 to 126? 2"
+    ∷ bytes "the line has more than 500 bytes, or one that is neither a blank nor a visible ASCII character"
+    -- "The line's form? 3"
+    ∷ bytes "the line has a wrong form (asm without arguments shows the forms of lines)"
+    -- "Known op and registers? 4"
+    ∷ bytes "the operation or a register is unknown"
+    -- "Numbers in range? 5"
+    ∷ bytes "a number is out of range (immediates -2048 to 4095, addresses 0 to 4095, data -2147483648 to 4294967295)"
+    -- "Label not defined on an earlier line? 6"
+    ∷ bytes "the label is defined on an earlier line too"
+    -- "Used labels defined on some line that passes 2 and 3? 7"
+    ∷ bytes "a label is used here that no line defines"
+    -- "Instruction or label address at most 4095, label among the first 1,024? 8"
+    ∷ bytes "there is no room for it (a program has at most 4096 instructions and 1024 labels)"
+    -- "Right digits? 9"
+    ∷ bytes "the line is no word (12 hexadecimal digits for an instruction, 8 for data and the disk, 2 for the frame)"
+    -- "a word left for this line? 10"
+    ∷ bytes "the file has more lines than there are words"
+    -- "(irq2, with its limit: 11)"
+    ∷ bytes "the line is no cycle (1 to 13 decimal digits, below 1099511627775)"
+    -- "irq2 rising? 12"
+    ∷ bytes "the cycles do not rise (each is above the one before)"
+    -- "Record sound? 13"
+    ∷ bytes "the saved record is not sound (it holds what no machine can hold)"
+    -- "edition 1? 14"
+    ∷ bytes "the saved record has another edition than 1"
+    -- "does the whole text fit? 15"
+    ∷ bytes "the text does not fit"
+    -- "opcode at most 21? 16"
+    ∷ bytes "the opcode names no operation (it is at most 21)"
+    ∷ []
+
+unfoldable pub sentence : ℕ → List ℕ
+unfolding sentences
+sentence n = getD sentences n []
+
+-- "a place (line from 1, listed word from 0, else 0)": 16 has a word; 2 to 12 have a line where the place is not 0; the others have no place.
+abbrev pub hasLine : ℕ → ℕ → Bool
+hasLine number place = leb 2 number && leb number 12 && ltb 0 place
+
+-- What is counted, its number, and a colon and a blank after them.
+abbrev pub counted : List ℕ → ℕ → List ℕ
+counted kind place = kind ++ decimal place ++ bytes ": "
+
+unfoldable pub placeText : ℕ → ℕ → List ℕ
+placeText number place =
+    cond (eqb number 16) (counted (bytes "word ") place)
+    (cond (hasLine number place) (counted (bytes "line ") place) [])
+
+-- As `prog.asm: line 3: 7: a label is used here that no line defines`.
+unfoldable pub refusalLine : List ℕ → ℕ → ℕ → List ℕ
+refusalLine file number place =
+    file ++ bytes ": " ++ placeText number place ++ counted [] number ++ sentence number ++ (LF ∷ [])

@@ -1,0 +1,40 @@
+// Lines on standard output. A line is put together first, so that it is written at once.
+use libc::STDOUT_FILENO;
+use text::decimal::digit_count;
+use text::decimal::put_decimal;
+use text::place::put_bytes;
+ghost use Prim.Native.Nat.{_≤_};
+ghost use lib.ListN.{length};
+ghost use Rattle.io.specs.Counts.{Counts};
+
+// Room for a line with three names of files.
+pub const LINE: usize = 16_384;
+
+// Writes bytes to standard output; where that fails, standard error tells.
+pub fn say(bytes: &[u8]) {
+    if !io::write_all(STDOUT_FILENO, bytes) {
+        os::fail(b"standard output");
+    }
+}
+
+// Lays bytes at a place of a line and returns the place after them; where there is no room for them, lays none.
+pub fn append(line: &mut [u8], at: usize, bytes: &[u8]) -> usize
+    requires { ⌜ at ≤ length (now line) ⌝ }
+    ensures { λ r. ⌜ Counts r (now (line .exit)) ⌝ }
+{
+    if line.len() - at < bytes.len() {
+        return at;
+    }
+    put_bytes(line, at, bytes)
+}
+
+// Lays a number in decimal, in the same way.
+pub fn append_number(line: &mut [u8], at: usize, v: usize) -> usize
+    requires { ⌜ at ≤ length (now line) ⌝ }
+    ensures { λ r. ⌜ Counts r (now (line .exit)) ⌝ }
+{
+    if line.len() - at < digit_count(v as u64) {
+        return at;
+    }
+    put_decimal(line, at, v as u64)
+}

@@ -1,0 +1,30 @@
+// Paths.
+use libc::PATH_MAX;
+use text::place::put_bytes;
+ghost use Rattle.io.specs.Counts.{Counts};
+
+// Whether a path names a link, and not what the link leads to.
+pub fn is_link(path: &[u8]) -> bool {
+    if PATH_MAX <= path.len() {
+        return false;
+    }
+    let mut ended = [0u8; PATH_MAX];
+    put_bytes(&mut ended, 0, path);
+    ended[PATH_MAX - 1] = 0;
+    let mut target = [0u8; 1];
+    0 <= libc::readlink(&ended, &mut target)
+}
+
+// Lays a path and `.new` at the front and returns the length of both; 0 where they are too long for a path.
+pub fn put_new_path(path: &[u8], out: &mut [u8]) -> usize
+    ensures { λ r. ⌜ Counts r (now (out .exit)) ⌝ }
+{
+    if out.len() < 4 {
+        return 0;
+    }
+    if out.len() - 4 < path.len() {
+        return 0;
+    }
+    let at = put_bytes(out, 0, path);
+    put_bytes(out, at, b".new")
+}

@@ -13,6 +13,7 @@ pub use output::LINE;
 pub use output::append;
 pub use output::append_number;
 pub use output::say;
+pub use output::say_of;
 pub use read::read_file;
 pub use refusal::say_refusal;
 pub use write::write_file;

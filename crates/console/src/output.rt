@@ -17,6 +17,14 @@ pub fn say(bytes: &[u8]) {
     }
 }
 
+// Says words of a file, after its name.
+pub fn say_of(file: &[u8], words: &[u8]) {
+    let mut line = [0u8; LINE];
+    let words_at = append(&mut line, 0, file);
+    let end = append(&mut line, words_at, words);
+    say(&line[..end]);
+}
+
 // Lays bytes at a place of a line and returns the place after them; where there is no room for them, lays none.
 pub fn append(line: &mut [u8], at: usize, bytes: &[u8]) -> usize
     requires { ⌜ at ≤ length (now line) ⌝ }

@@ -1,24 +1,31 @@
 // A file read whole.
 use crate::Got;
+use crate::output::say_of;
 ghost use Prim.Native.Nat.{_≤_};
 ghost use lib.ListN.{length};
 ghost use Rattle.console.specs.Reading.{GotIn, EndOf};
 
-// Reads a file into the front of a buffer. Where the file can't be opened or read, standard error tells why.
+// Reads a file into the front of a buffer. Where the file can't be opened or read, standard error tells why and standard output that it is not read.
 pub fn read_file(path: &[u8], buffer: &mut [u8]) -> Got
     ensures { λ r. ⌜ GotIn r (now (buffer .exit)) ⌝ }
 {
     let fd = os::open_read(path);
     if fd < 0 {
-        os::fail(path);
+        say_not_read(path);
         return Got::Nothing;
     }
     let got = read_open(fd, buffer);
     libc::close(fd);
     if let Got::Nothing = got {
-        os::fail(path);
+        say_not_read(path);
     }
     got
+}
+
+// Says why the last call failed, and that a file is not read.
+fn say_not_read(path: &[u8]) {
+    os::fail(path);
+    say_of(path, b": can't be read\n");
 }
 
 // Reads until the file ends, a read fails or the buffer is full.

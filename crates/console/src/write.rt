@@ -1,7 +1,5 @@
 // A file written whole.
-use crate::output::LINE;
-use crate::output::append;
-use crate::output::say;
+use crate::output::say_of;
 use crate::path::is_link;
 use crate::path::put_new_path;
 
@@ -24,7 +22,7 @@ pub fn write_file(path: &[u8], bytes: &[u8]) -> bool {
         Old::Closed => failed(path),
     };
     if !is_done {
-        say_not_written(path);
+        say_of(path, b": can't be written\n");
     }
     is_done
 }
@@ -33,14 +31,6 @@ pub fn write_file(path: &[u8], bytes: &[u8]) -> bool {
 fn failed(what: &[u8]) -> bool {
     os::fail(what);
     false
-}
-
-// Says that a file is not written.
-fn say_not_written(path: &[u8]) {
-    let mut line = [0u8; LINE];
-    let words_at = append(&mut line, 0, path);
-    let end = append(&mut line, words_at, b": can't be written\n");
-    say(&line[..end]);
 }
 
 // Looks at what stands at a path. Only files, and not devices or pipes, can be brought to the disk.

@@ -13,6 +13,7 @@ use console::LINE;
 use console::append;
 use console::say;
 use console::say_refusal;
+ghost use Prim.Native.Nat.{_+_, _^_, _<_};
 
 fn main() {
     let count = os::arg_count();
@@ -26,7 +27,9 @@ fn main() {
 }
 
 // Runs the step whose words start at an argument.
-fn run_step(i: usize) {
+fn run_step(i: usize)
+    requires { ⌜ i + 4 < 2 ^ 64 ⌝ }
+{
     let mut step = io::buffer();
     let s = os::arg(i, &mut step);
     let mut first = io::buffer();

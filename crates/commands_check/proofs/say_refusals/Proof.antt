@@ -1,58 +1,47 @@
+-- `commands_check::say_refusals` meets its contract.
+use Prim.Native.Nat.{_≤_, _-_}
+use borrow.Author.Needs.{needs}
 use Rattle.commands_check.proofs.say_refusals.Statement.{statement}
 use Rattle.commands_check.proofs.say_refusals.Tie as tie
-use Rattle.commands_check.proofs.say_refusals.Reads as reads
-use Rattle.commands_check.proofs.say_refusals.Lts as lts
-use Rattle.console.proofs.say_refusal.Reads as say-refusal-reads
 
 abbrev Inv-loop : tie.InvT-loop
-Inv-loop number₀ t2 t3 t4 number = ?
+Inv-loop number₀ t2 t3 t4 number = number ≤ 18
 
 abbrev μ-loop : tie.MeasureT-loop
-μ-loop number₀ t2 t3 t4 number = ?
+μ-loop number₀ t2 t3 t4 number = 18 - number
 
--- src/main.rt:70:5
 loop-holds : tie.Need-loop-holds Inv-loop μ-loop
-loop-holds c = ?
+loop-holds c = search needs
 
--- src/main.rt:71:21
 slice-aggregate-say-refusal : tie.Need-slice-aggregate-say-refusal Inv-loop μ-loop
-slice-aggregate-say-refusal c = ?
+slice-aggregate-say-refusal c = search needs
 
--- src/main.rt:71:9
 say-refusal-requires : tie.Need-say-refusal-requires Inv-loop μ-loop
-say-refusal-requires c κs = ?
+say-refusal-requires c κs = search needs
 
--- src/main.rt:72:9
 add-number : tie.Need-add-number Inv-loop μ-loop
-add-number c = ?
+add-number c = search needs
 
--- src/main.rt:70:5
 loop-less : tie.Need-loop-less Inv-loop μ-loop
-loop-less c = ?
+loop-less c = search needs
 
--- src/main.rt:70:5
 loop-again : tie.Need-loop-again Inv-loop μ-loop
-loop-again c = ?
+loop-again c = search needs
 
--- src/main.rt:74:17
 slice-aggregate-say-refusal-2 : tie.Need-slice-aggregate-say-refusal-2 Inv-loop μ-loop
-slice-aggregate-say-refusal-2 c = ?
+slice-aggregate-say-refusal-2 c = search needs
 
--- src/main.rt:74:5
 say-refusal-requires-2 : tie.Need-say-refusal-requires-2 Inv-loop μ-loop
-say-refusal-requires-2 c κs = ?
+say-refusal-requires-2 c κs = search needs
 
--- src/main.rt:75:17
 slice-aggregate-say-refusal-3 : tie.Need-slice-aggregate-say-refusal-3 Inv-loop μ-loop
-slice-aggregate-say-refusal-3 c = ?
+slice-aggregate-say-refusal-3 c = search needs
 
--- src/main.rt:75:5
 say-refusal-requires-3 : tie.Need-say-refusal-requires-3 Inv-loop μ-loop
-say-refusal-requires-3 c κs = ?
+say-refusal-requires-3 c κs = search needs
 
--- src/main.rt:68:1
 returns : tie.Need-returns Inv-loop μ-loop
-returns c = ?
+returns c = search needs
 
 pub say-refusals-spec : {M : Type 1} → statement M
 say-refusals-spec =

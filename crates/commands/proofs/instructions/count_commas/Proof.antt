@@ -1,12 +1,9 @@
+-- `commands::instructions::count_commas` meets its contract.
 use Prim.Native.Nat.{_≤_, _-_}
 use lib.ListN.{length}
 use borrow.Author.Needs.{needs}
 use Rattle.commands.proofs.instructions.count_commas.Statement.{statement}
 use Rattle.commands.proofs.instructions.count_commas.Tie as tie
-use Rattle.commands.proofs.instructions.count_commas.Reads as reads
-use Rattle.commands.proofs.instructions.count_commas.Lts as lts
-use Rattle.commands.proofs.instructions.comma.Reads as comma-reads
-use Rattle.commands.proofs.instructions.goes_on.Reads as goes-on-reads
 
 abbrev Inv-loop : tie.InvT-loop
 Inv-loop text n₀ is-comment₀ i₀ n is-comment i = (i ≤ length text) × (n ≤ i)
@@ -14,39 +11,30 @@ Inv-loop text n₀ is-comment₀ i₀ n is-comment i = (i ≤ length text) × (n
 abbrev μ-loop : tie.MeasureT-loop
 μ-loop text n₀ is-comment₀ i₀ n is-comment i = length text - i
 
--- src/instructions.rt:16:5
 loop-holds : tie.Need-loop-holds Inv-loop μ-loop
 loop-holds c = search needs
 
--- src/instructions.rt:17:17
 shared-slice-read-b : tie.Need-shared-slice-read-b Inv-loop μ-loop
 shared-slice-read-b c = search needs
 
--- src/instructions.rt:18:9
 goes-on-requires : tie.Need-goes-on-requires Inv-loop μ-loop
 goes-on-requires c κs = search needs
 
--- src/instructions.rt:19:14
 comma-requires : tie.Need-comma-requires Inv-loop μ-loop
 comma-requires c κs = search needs
 
--- src/instructions.rt:19:9
 add-n : tie.Need-add-n Inv-loop μ-loop
 add-n c = search needs
 
--- src/instructions.rt:20:9
 add-i : tie.Need-add-i Inv-loop μ-loop
 add-i c = search needs
 
--- src/instructions.rt:16:5
 loop-less : tie.Need-loop-less Inv-loop μ-loop
 loop-less c = search needs
 
--- src/instructions.rt:16:5
 loop-again : tie.Need-loop-again Inv-loop μ-loop
 loop-again c = search needs
 
--- src/instructions.rt:12:1
 returns : tie.Need-returns Inv-loop μ-loop
 returns c = search needs
 

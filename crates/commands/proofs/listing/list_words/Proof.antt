@@ -1,3 +1,4 @@
+-- `commands::listing::list_words` meets its contract.
 use mathlib.Core.Path.{_≡_, sym, _∙_, ap}
 use Prim.Native.Nat.{_≤_}
 use native.Mathlib.Omega.{arith}
@@ -8,79 +9,58 @@ use Rattle.roundtrip.proofs.ListedCalls.{accepted-is}
 use borrow.Author.Needs.{needs}
 use Rattle.commands.proofs.listing.list_words.Statement.{statement}
 use Rattle.commands.proofs.listing.list_words.Tie as tie
-use Rattle.commands.proofs.listing.list_words.Reads as reads
-use Rattle.commands.proofs.listing.list_words.Lts as lts
-use Rattle.console.proofs.say.Reads as say-reads
-use Rattle.console.proofs.say_refusal.Reads as say-refusal-reads
-use Rattle.lister.proofs.list.Reads as list-reads
 
--- src/listing.rt:64:23
 slice-aggregate-list : tie.Need-slice-aggregate-list
 slice-aggregate-list c = search needs
 
--- src/listing.rt:64:11
 list-requires : tie.Need-list-requires
 list-requires c κs = search needs
 
--- src/listing.rt:65:23
 enum-known-count : tie.Need-enum-known-count
 enum-known-count c = search needs
 
--- src/listing.rt:65:37
 array-share-prefix-text : tie.Need-array-share-prefix-text
 array-share-prefix-text c =
     let told = sym (c .before .before .before .before .list .ensures .answer) ∙ ap listedTold (c .before .count .given .1) in
     let accepted = accepted-is _ _ _ told in
     omega (arith, accepted .fits, accepted .count, c .before .before .before .before .list .kept .1 .0)
 
--- src/listing.rt:65:37
 slice-aggregate-say : tie.Need-slice-aggregate-say
 slice-aggregate-say c =
     let told = sym (c .before .before .before .before .before .list .ensures .answer) ∙ ap listedTold (c .before .before .count .given .1) in
     let accepted = accepted-is _ _ _ told in
     sym (length-take-le _ _ (omega (arith, accepted .fits, accepted .count, c .before .before .before .before .before .list .kept .1 .0)))
 
--- src/listing.rt:65:33
 say-requires : tie.Need-say-requires
 say-requires c κs = search needs
 
--- src/listing.rt:66:32
 enum-told : tie.Need-enum-told
 enum-told c = search needs
 
--- src/listing.rt:66:32
 say-refusal-requires : tie.Need-say-refusal-requires
 say-refusal-requires c κs = search needs
 
--- src/listing.rt:67:31
 enum-known-word : tie.Need-enum-known-word
 enum-known-word c = search needs
 
--- src/listing.rt:67:40
 say-refusal-requires-2 : tie.Need-say-refusal-requires-2
 say-refusal-requires-2 c κs = search needs
 
--- src/listing.rt:68:27
 enum-told-2 : tie.Need-enum-told-2
 enum-told-2 c = search needs
 
--- src/listing.rt:68:27
 say-refusal-requires-3 : tie.Need-say-refusal-requires-3
 say-refusal-requires-3 c κs = search needs
 
--- src/listing.rt:62:1
 returns : tie.Need-returns
 returns c = search needs
 
--- src/listing.rt:62:1
 returns-2 : tie.Need-returns-2
 returns-2 c = search needs
 
--- src/listing.rt:62:1
 returns-3 : tie.Need-returns-3
 returns-3 c = search needs
 
--- src/listing.rt:62:1
 returns-4 : tie.Need-returns-4
 returns-4 c = search needs
 

@@ -1,0 +1,1 @@
+halt $zero, $zero, $zero, $zero, 0, 0 # café

@@ -1,0 +1,2 @@
+# the operands are missing
+halt

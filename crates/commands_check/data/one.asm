@@ -1,0 +1,1 @@
+one: halt $zero, $zero, $zero, $zero, 0, 0

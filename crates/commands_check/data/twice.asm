@@ -1,0 +1,3 @@
+L:
+
+L: halt $zero, $zero, $zero, $zero, 0, 0

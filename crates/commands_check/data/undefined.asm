@@ -1,0 +1,1 @@
+jal $ra, $zero, $zero, $imm1, There, 0

@@ -1,34 +1,119 @@
-// The help text.
+// The help text. It is put together first, so that it is written at once.
+use console::LINE;
+use console::append;
 use console::say;
+ghost use Prim.Native.Nat.{_≤_};
+ghost use lib.ListN.{length};
+ghost use Rattle.io.specs.Counts.{Counts};
 
-// What the program does and the forms of lines that it reads.
+// Prints what the program does and the forms of lines that it reads.
 pub fn print_help() {
-    say(b"asm PROGRAM IMEM DMEM: assembles a SIMP program\n\n");
-    say(b"  PROGRAM  the program, in assembly; it is read\n");
-    say(b"  IMEM     the instruction file, 4096 lines of 12 digits; it is written\n");
-    say(b"  DMEM     the file of data, 4096 lines of 8 digits; it is written\n\n");
-    say(b"Example:\n\n  asm program.asm imemin.txt dmemin.txt\n\n");
-    print_lines();
-    print_parts();
-    say(b"A program that is refused writes nothing: one line tells what is wrong, and where.\n");
+    let mut text = [0u8; LINE];
+    let mut at = append_files(&mut text, 0);
+    at = append_lines(&mut text, at);
+    at = append_parts(&mut text, at);
+    at = append(
+        &mut text,
+        at,
+        b"A program that is refused writes nothing: one line tells what is wrong, and where.\n",
+    );
+    say(&text[..at]);
 }
 
-// One of each kind of line.
-fn print_lines() {
-    say(b"A line is one of these, or empty; a # starts a comment:\n\n");
-    say(b"  add $t0, $t0, $imm1, $zero, 1, 0          op rd, rs, rt, rm, imm1, imm2\n");
-    say(b"  L1: beq $zero, $t0, $t1, $imm1, L1, 0     a label before an instruction\n");
-    say(b"  L1:                                       a label alone\n");
-    say(b"  .word 0x100 -7                            address 0x100 of the data is -7\n");
-    say(b"  # a comment\n\n");
+// Lays what the program does and its files at a place of the text and returns the place after it.
+fn append_files(text: &mut [u8], at: usize) -> usize
+    requires { ⌜ at ≤ length (now text) ⌝ }
+    ensures { λ r. ⌜ Counts r (now (text .exit)) ⌝ }
+{
+    let program_at = append(
+        text,
+        at,
+        b"asm PROGRAM IMEM DMEM: assembles a SIMP program\n\n",
+    );
+    let imem_at = append(
+        text,
+        program_at,
+        b"  PROGRAM  the program, in assembly; it is read\n",
+    );
+    let dmem_at = append(
+        text,
+        imem_at,
+        b"  IMEM     the instruction file, 4096 lines of 12 digits; it is written\n",
+    );
+    let example_at = append(
+        text,
+        dmem_at,
+        b"  DMEM     the file of data, 4096 lines of 8 digits; it is written\n\n",
+    );
+    append(
+        text,
+        example_at,
+        b"Example:\n\n  asm program.asm imemin.txt dmemin.txt\n\n",
+    )
 }
 
-// What the parts of a line are.
-fn print_parts() {
-    say(b"  op         add sub mac and or xor sll sra srl beq bne blt bgt ble bge jal lw sw\n");
-    say(b"             reti in out halt\n");
-    say(b"  rd to rm   $zero $imm1 $imm2 $v0 $a0 $a1 $a2 $t0 $t1 $t2 $s0 $s1 $s2 $gp $sp $ra\n");
-    say(b"  imm1 imm2  a number from -2048 to 4095, or a label\n");
-    say(b"  label      a letter, then letters or digits, 50 at most\n");
-    say(b"  number     decimal, as 12 or -3; or hexadecimal, as 0x1F\n\n");
+// Lays one of each kind of line in the same way.
+fn append_lines(text: &mut [u8], at: usize) -> usize
+    requires { ⌜ at ≤ length (now text) ⌝ }
+    ensures { λ r. ⌜ Counts r (now (text .exit)) ⌝ }
+{
+    let first_at = append(
+        text,
+        at,
+        b"A line is one of these, or empty; a # starts a comment:\n\n",
+    );
+    let second_at = append(
+        text,
+        first_at,
+        b"  add $t0, $t0, $imm1, $zero, 1, 0          op rd, rs, rt, rm, imm1, imm2\n",
+    );
+    let third_at = append(
+        text,
+        second_at,
+        b"  L1: beq $zero, $t0, $t1, $imm1, L1, 0     a label before an instruction\n",
+    );
+    let fourth_at = append(
+        text,
+        third_at,
+        b"  L2:                                       a label alone\n",
+    );
+    let fifth_at = append(
+        text,
+        fourth_at,
+        b"  .word 0x100 -7                            address 0x100 of the data is -7\n",
+    );
+    append(text, fifth_at, b"  # a comment\n\n")
+}
+
+// Lays what the parts of a line are in the same way.
+fn append_parts(text: &mut [u8], at: usize) -> usize
+    requires { ⌜ at ≤ length (now text) ⌝ }
+    ensures { λ r. ⌜ Counts r (now (text .exit)) ⌝ }
+{
+    let more_at = append(
+        text,
+        at,
+        b"  op         add sub mac and or xor sll sra srl beq bne blt bgt ble bge jal lw sw\n",
+    );
+    let registers_at = append(text, more_at, b"             reti in out halt\n");
+    let numbers_at = append(
+        text,
+        registers_at,
+        b"  rd to rm   $zero $imm1 $imm2 $v0 $a0 $a1 $a2 $t0 $t1 $t2 $s0 $s1 $s2 $gp $sp $ra\n",
+    );
+    let label_at = append(
+        text,
+        numbers_at,
+        b"  imm1 imm2  a number from -2048 to 4095, or a label\n",
+    );
+    let number_at = append(
+        text,
+        label_at,
+        b"  label      a letter, then letters or digits, 50 at most\n",
+    );
+    append(
+        text,
+        number_at,
+        b"  number     decimal, as 12 or -3; or hexadecimal, as 0x1F\n\n",
+    )
 }

@@ -1,7 +1,6 @@
 // Instructions of a program that is accepted.
 use text::lines::LF;
 ghost use Prim.Native.Nat.{_≤_};
-ghost use lib.ListN.{length};
 
 // How many instructions an accepted program has: each has five commas, and no other line has one before its comment.
 pub fn count_instructions(text: &[u8]) -> usize {

@@ -3,7 +3,7 @@
 //     list IMEM - -             the command list;
 //     same A B -                says whether two files hold the same bytes;
 //     refusals - - -            the lines of the refusals 0 to 17 at place 7, and of 12 and 16 at place 0.
-// Before each step it prints the step's words.
+// Before each step it prints the step's words. mulmat.imem and mulmat.dmem are what tests/reference writes for mulmat.asm.
 mod compare;
 
 use crate::compare::compare_files;

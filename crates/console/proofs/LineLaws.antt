@@ -1,21 +1,20 @@
 -- The line of a refusal, as the code lays its pieces, and how long they are. Assumes nothing.
 use Prim.Native.Nat.{ℕ, _+_, _^_, _≤_, _<_}
-use mathlib.Core.Path.{_≡_, refl, sym, _∙_, ap}
+use mathlib.Core.Path.{_≡_, sym, ap}
 use mathlib.Core.Bool.{false}
-use mathlib.Core.List.{List, [], _∷_, _++_}
+use mathlib.Core.List.{List, [], _++_}
 use native.Mathlib.Nat.{add-zero}
 use native.Mathlib.Omega.{arith}
-use lib.ListN.{length, List·getD-eq-default}
-use lib.ListN.{length, set, getD, length-append}
+use lib.ListN.{length, List·getD-eq-default, set, length-append}
 use lib.Dec.{eqb}
 use Rattle.text.specs.Bytes.{bytes}
 use Rattle.text.specs.Lines.{LF}
 use Rattle.text.specs.Numerals.{digitCount, decimal}
 use Rattle.text.specs.Place.{put}
+use Rattle.console.specs.Refusals.{sentence, sentences, hasLine, counted, placeText, refusalLine}
 use Rattle.text.proofs.DecimalLaws.{length-decimal, count-le}
 use Rattle.text.proofs.PieceLaws.{more}
 use Rattle.text.proofs.PutLaws.{put-nil, put-one}
-use Rattle.console.specs.Refusals.{sentence, sentences, hasLine, counted, placeText, refusalLine}
 
 -- ---- a count
 

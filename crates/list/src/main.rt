@@ -1,5 +1,7 @@
 // Lists an instruction file as assembly text: `list IMEM`. Without one argument it prints a help text.
 use commands::list_file;
+use console::LINE;
+use console::append;
 use console::file_name;
 use console::say;
 
@@ -16,12 +18,38 @@ fn main() {
     list_file(&imem[..n]);
 }
 
-// What the program does.
+// Prints what the program does. The text is put together first, so that it is written at once.
 fn print_help() {
-    say(b"list IMEM: prints a SIMP instruction file as assembly text\n\n");
-    say(b"  IMEM  the instruction file, up to 4096 lines of 12 hexadecimal digits; it is read\n\n");
-    say(b"Example:\n\n  list imemin.txt > program.asm\n\n");
-    say(b"Each word up to the last one that is not zero gives a line, which asm reads back:\n\n");
-    say(b"  add $t0, $t0, $imm1, $zero, 1, 0          op rd, rs, rt, rm, imm1, imm2\n\n");
-    say(b"A file that is refused gives one line: what is wrong, and where.\n");
+    let mut text = [0u8; LINE];
+    let mut at = append(
+        &mut text,
+        0,
+        b"list IMEM: prints a SIMP instruction file as assembly text\n\n",
+    );
+    at = append(
+        &mut text,
+        at,
+        b"  IMEM  the instruction file, up to 4096 lines of 12 hexadecimal digits; it is read\n\n",
+    );
+    at = append(
+        &mut text,
+        at,
+        b"Example:\n\n  list imemin.txt > program.asm\n\n",
+    );
+    at = append(
+        &mut text,
+        at,
+        b"Each word up to the last one that is not zero gives a line, which asm reads back:\n\n",
+    );
+    at = append(
+        &mut text,
+        at,
+        b"  add $t0, $t0, $imm1, $zero, 1, 0          op rd, rs, rt, rm, imm1, imm2\n\n",
+    );
+    at = append(
+        &mut text,
+        at,
+        b"A file that is refused gives one line: what is wrong, and where.\n",
+    );
+    say(&text[..at]);
 }

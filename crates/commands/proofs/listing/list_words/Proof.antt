@@ -1,12 +1,10 @@
 -- `commands::listing::list_words` meets its contract.
-use mathlib.Core.Path.{_≡_, sym, _∙_, ap}
-use Prim.Native.Nat.{_≤_}
+use mathlib.Core.Path.{sym, _∙_, ap}
 use native.Mathlib.Omega.{arith}
-use lib.ListN.{length}
 use lib.Seq.{length-take-le}
+use borrow.Author.Needs.{needs}
 use Rattle.lister.specs.Calls.{listedTold}
 use Rattle.roundtrip.proofs.ListedCalls.{accepted-is}
-use borrow.Author.Needs.{needs}
 use Rattle.commands.proofs.listing.list_words.Statement.{statement}
 use Rattle.commands.proofs.listing.list_words.Tie as tie
 

@@ -1,9 +1,9 @@
 -- `console::output::append` meets its contract.
 use mathlib.Core.Path.{sym}
 use Prim.Native.Nat.{_≤_}
+use native.Mathlib.Omega.{arith}
 use lib.ListN.{length}
 use lib.Seq.{length-take-le}
-use native.Mathlib.Omega.{arith}
 use borrow.Author.Needs.{needs}
 use Rattle.console.proofs.output.append.Statement.{statement}
 use Rattle.console.proofs.output.append.Tie as tie

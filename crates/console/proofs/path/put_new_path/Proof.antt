@@ -1,9 +1,9 @@
 -- `console::path::put_new_path` meets its contract.
 use mathlib.Core.Path.{sym}
 use Prim.Native.Nat.{_≤_}
+use native.Mathlib.Omega.{arith}
 use lib.ListN.{length}
 use lib.Seq.{length-take-le}
-use native.Mathlib.Omega.{arith}
 use borrow.Author.Needs.{needs}
 use Rattle.console.proofs.path.put_new_path.Statement.{statement}
 use Rattle.console.proofs.path.put_new_path.Tie as tie

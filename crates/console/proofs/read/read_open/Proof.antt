@@ -1,12 +1,10 @@
 -- `console::read::read_open` meets its contract.
-use Rattle.console.proofs.ReadLaws.{end-got}
-use lib.Seq.{length-take-le}
-use lib.ListN.{take}
 use Prim.Native.Nat.{_≤_, _-_}
-use mathlib.Core.Path.{_≡_, sym, _∙_}
-use native.Mathlib.Omega.{arith}
+use mathlib.Core.Path.{_≡_, sym}
+use lib.Seq.{length-take-le}
 use lib.ListN.{length}
 use borrow.Author.Needs.{needs}
+use Rattle.console.proofs.ReadLaws.{end-got}
 use Rattle.console.proofs.read.read_open.Statement.{statement}
 use Rattle.console.proofs.read.read_open.Tie as tie
 

@@ -1,5 +1,4 @@
 -- `console::refusal::has_line` meets its contract.
-use mathlib.Core.Bool.{false}
 use borrow.Author.Tests.{lt-leb, le-leb}
 use Rattle.console.proofs.refusal.has_line.Statement.{statement}
 use Rattle.console.proofs.refusal.has_line.Tie as tie

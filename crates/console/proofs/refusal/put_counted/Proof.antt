@@ -1,8 +1,7 @@
 -- `console::refusal::put_counted` meets its contract.
 use native.Mathlib.Omega.{arith}
-use lib.ListN.{length}
-use Rattle.console.proofs.LineLaws.{few, length-counted, counted-laid}
 use borrow.Author.Needs.{needs}
+use Rattle.console.proofs.LineLaws.{few, length-counted, counted-laid}
 use Rattle.console.proofs.refusal.put_counted.Statement.{statement}
 use Rattle.console.proofs.refusal.put_counted.Tie as tie
 

@@ -1,15 +1,10 @@
 -- `console::refusal::put_place` meets its contract.
-use Rattle.console.proofs.LineLaws.{no-place}
-use lib.Dec.{eqb}
-use mathlib.Core.Bool.{Bool, true, false, cond}
-use mathlib.Core.Path.{ap}
-use borrow.Author.Tests.{ne-eqb}
-use Rattle.console.specs.Refusals.{hasLine}
+use mathlib.Core.Path.{sym, _∙_}
 use native.Mathlib.Omega.{arith}
-use mathlib.Core.Path.{_≡_, sym, _∙_}
-use Rattle.console.specs.Refusals.{placeText}
-use Rattle.console.proofs.LineLaws.{nothing-laid}
+use borrow.Author.Tests.{ne-eqb}
 use borrow.Author.Needs.{needs}
+use Rattle.console.specs.Refusals.{placeText}
+use Rattle.console.proofs.LineLaws.{no-place, nothing-laid}
 use Rattle.console.proofs.refusal.put_place.Statement.{statement}
 use Rattle.console.proofs.refusal.put_place.Tie as tie
 

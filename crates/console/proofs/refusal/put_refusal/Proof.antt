@@ -1,11 +1,10 @@
 -- `console::refusal::put_refusal` meets its contract.
-use Rattle.console.proofs.ReadLaws.{within}
-use mathlib.Core.Path.{sym, _∙_}
-use lib.Seq.{length-take-le}
-use lib.ListN.{length-set}
+use mathlib.Core.Path.{_∙_}
 use native.Mathlib.Omega.{arith}
-use Rattle.console.proofs.LineLaws.{line-laid}
+use lib.ListN.{length-set}
 use borrow.Author.Needs.{needs}
+use Rattle.console.proofs.ReadLaws.{within}
+use Rattle.console.proofs.LineLaws.{line-laid}
 use Rattle.console.proofs.refusal.put_refusal.Statement.{statement}
 use Rattle.console.proofs.refusal.put_refusal.Tie as tie
 

@@ -1,9 +1,9 @@
 -- `console::refusal::say_refusal` meets its contract.
-use lib.ListN.{length}
 use Prim.Native.Nat.{_≤_}
 use mathlib.Core.Path.{sym}
-use lib.Seq.{length-take-le}
 use native.Mathlib.Omega.{arith}
+use lib.ListN.{length}
+use lib.Seq.{length-take-le}
 use borrow.Author.Needs.{needs}
 use Rattle.console.proofs.refusal.say_refusal.Statement.{statement}
 use Rattle.console.proofs.refusal.say_refusal.Tie as tie

@@ -1,8 +1,8 @@
 -- `console::sentences::put_cycle_and_record_sentence` meets its contract.
-use native.Mathlib.Omega.{arith}
 use mathlib.Core.Path.{_≡_}
-use Rattle.console.specs.Refusals.{sentence, sentences}
+use native.Mathlib.Omega.{arith}
 use borrow.Author.Needs.{needs}
+use Rattle.console.specs.Refusals.{sentence, sentences}
 use Rattle.console.proofs.sentences.put_cycle_and_record_sentence.Statement.{statement}
 use Rattle.console.proofs.sentences.put_cycle_and_record_sentence.Tie as tie
 

@@ -1,7 +1,7 @@
 -- `console::sentences::put_sentence` meets its contract.
 use native.Mathlib.Omega.{arith}
-use Rattle.console.proofs.LineLaws.{nothing-laid, none-first, none-above}
 use borrow.Author.Needs.{needs}
+use Rattle.console.proofs.LineLaws.{nothing-laid, none-first, none-above}
 use Rattle.console.proofs.sentences.put_sentence.Statement.{statement}
 use Rattle.console.proofs.sentences.put_sentence.Tie as tie
 

@@ -292,8 +292,8 @@ static void uses(const char *a, const char *b) {
     for (int i = 0; i < WORDS; i++) add(line);
 }
 
-// The first two names of so many letters in the bucket of another name, then as many more labels of that bucket as fit, or the other name again and again.
-static void in_bucket(int n, const char *other, int again) {
+// The first two names of so many letters in the bucket of another name, defined and used; then as many more labels of that bucket as fit, or these lines again and again.
+static void in_bucket(int n, const char *other, const char *again) {
     char name[8] = "aaaaaaa", first[2][8], line[16];
     int found = 0;
     uint32_t bucket = key_of((const uint8_t *)other, (unsigned)strlen(other)) % BUCKETS;
@@ -308,8 +308,7 @@ static void in_bucket(int n, const char *other, int again) {
             if (again) break;
         }
     } while (size + 16 <= MOST && next_name(name, n));
-    snprintf(line, sizeof line, "%s:\n", other);
-    if (again) repeat(line);
+    if (again) repeat(again);
 }
 
 static void full_program(int labels) {
@@ -322,11 +321,17 @@ static void full_program(int labels) {
     }
 }
 
-static void many_labels(void) {
-    char name[4] = "aaa", line[16];
-    uses("aaa", "aab");
-    do snprintf(line, sizeof line, "%s:\n", name), add(line);
-    while (size + 8 <= MOST && next_name(name, 3));
+// 4,096 instructions that use 8,192 labels, and after them as many labels as fit, those among them.
+static void late_labels(void) {
+    char a[4] = "aaa", b[4], line[64];
+    for (int i = 0; i < WORDS; i++) {
+        strcpy(b, a), next_name(b, 3);
+        snprintf(line, sizeof line, "in $ra,$ra,$ra,$ra,%s,%s\n", a, b), add(line);
+        strcpy(a, b), next_name(a, 3);
+    }
+    strcpy(a, "aaa");
+    do snprintf(line, sizeof line, "%s:\n", a), add(line);
+    while (size + 8 <= MOST && next_name(a, 3));
 }
 
 static void long_line(char c, int lf) {
@@ -338,7 +343,8 @@ static void long_line(char c, int lf) {
 }
 
 static const char *const names[] = {"full program, numbers", "full program, 1,024 labels", "1 label 87,381 times", "262,144 empty lines", "131,072 comments", "one line", "lines of 500 bytes: comment", "lines of 500 bytes: blanks",
-                                    ".word on every line", "27,000 labels, all used", "labels in one bucket", "one label again, in the bucket of those used", "unknown label at the end"};
+                                    ".word on every line", "8,192 late labels used", "labels in one bucket", "one label again, in the bucket of those used",
+                                    "two labels in turn, keys alike, in that bucket", "unknown label at the end", "every label unknown"};
 enum { TEXTS = sizeof names / sizeof *names };
 
 static void make(int i) {
@@ -353,10 +359,12 @@ static void make(int i) {
     case 6: long_line('#', 1); break;
     case 7: long_line(' ', 1); break;
     case 8: repeat(".word 4095 4294967295\n"); break;
-    case 9: many_labels(); break;
-    case 10: in_bucket(5, "aaaaa", 0); break;
-    case 11: in_bucket(3, "a", 1); break;
-    case 12: full_program(1), add("in $ra,$ra,$ra,$ra,zz,0\n"); break;
+    case 9: late_labels(); break;
+    case 10: in_bucket(5, "aaaaa", NULL); break;
+    case 11: in_bucket(3, "a", "a:\n"); break;
+    case 12: in_bucket(3, "A12n", "A12n:\nhja3:\n"); break;
+    case 13: full_program(1), add("in $ra,$ra,$ra,$ra,zz,0\n"); break;
+    case 14: repeat("in $ra,$ra,$ra,$ra,a,b\n"); break;
     }
 }
 
@@ -429,7 +437,7 @@ static double now(void) {
 
 static double best(int c) {
     double least = 1e9, sum = 0;
-    for (int i = 0; i < 25 && sum < 400; i++) {
+    for (int i = 0; i < 200 && sum < 400; i++) {
         double t = now();
         if (c) c_assemble(text, size, image[1], memory[1], &place[1]);
         else simp_assemble(text, size, image[0], WORDS, memory[0], WORDS, &place[0]);

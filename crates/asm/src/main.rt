@@ -4,8 +4,10 @@ mod help;
 use crate::help::print_help;
 use commands::assemble_file;
 use console::file_name;
+use console::hold_standard;
 
 fn main() {
+    hold_standard();
     if os::arg_count() != 4 {
         print_help();
         return;

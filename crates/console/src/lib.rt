@@ -1,22 +1,42 @@
-// What programs at a command line share: files read whole and written whole, the names of files in arguments, and lines on standard output, among
-// them one for each of document 01's refusals. No descriptor is open while a line is said, so a line never lands in a file.
+// What programs at a command line share: files read whole, files written beside the old ones and put in their places, the names of files in
+// arguments, and lines on standard output, among them one for each of document 01's refusals. A program calls `hold_standard` first, so that no
+// line lands in a file.
 mod arguments;
+mod more;
+mod old;
 mod output;
 mod path;
 mod read;
 mod refusal;
 mod sentences;
+mod standard;
 mod write;
 
 pub use arguments::file_name;
+pub use more::begin_more;
 pub use output::LINE;
 pub use output::append;
 pub use output::append_number;
 pub use output::say;
 pub use output::say_of;
+pub use output::tell;
 pub use read::read_file;
 pub use refusal::say_refusal;
+pub use standard::hold_standard;
+pub use write::begin_file;
+pub use write::drop_file;
+pub use write::end_file;
+pub use write::keep_file;
+pub use write::stage_file;
 pub use write::write_file;
+
+// A file that is being written.
+pub struct Writing {
+    // Its descriptor, which is open from the file's beginning to its end; negative where the file can't be written, as was said.
+    pub fd: i32,
+    // Whether it is a new file beside the old one, and not the old one itself.
+    pub is_new: bool,
+}
 
 // What reading a file answers.
 pub enum Got {

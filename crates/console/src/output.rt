@@ -1,4 +1,5 @@
 // Lines on standard output. A line is put together first, so that it is written at once.
+use libc::STDERR_FILENO;
 use libc::STDOUT_FILENO;
 use text::decimal::digit_count;
 use text::decimal::put_decimal;
@@ -15,6 +16,11 @@ pub fn say(bytes: &[u8]) {
     if !io::write_all(STDOUT_FILENO, bytes) {
         os::fail(b"standard output");
     }
+}
+
+// Writes bytes to standard error, where progress is told.
+pub fn tell(bytes: &[u8]) {
+    io::write_all(STDERR_FILENO, bytes);
 }
 
 // Says words of a file, after its name.

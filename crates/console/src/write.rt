@@ -1,105 +1,127 @@
-// A file written whole.
+// Files written. A new file is written beside the old one and takes its place when all of it is there, so nobody sees a part of it.
+use crate::Writing;
+use crate::old::Old;
+use crate::old::old_file;
 use crate::output::say_of;
-use crate::path::is_link;
 use crate::path::put_new_path;
 
-// What stands at a path.
-enum Old {
-    // Nothing, or a file that a new one may take the place of.
-    File,
-    // A link, a device or a pipe, which is not to be replaced.
-    Other,
-    // What can't be written.
-    Closed,
-}
-
-// Writes a file and answers whether it is there then. A new file is written beside the old one and takes its place at once, so nobody sees a part of
-// it. Where it can't be written, the old one stays, standard error tells why and standard output that it is not written.
+// Writes a file and answers whether it is there then. Where it can't be written, the old one stays, standard error tells why and standard output
+// that it is not written.
 pub fn write_file(path: &[u8], bytes: &[u8]) -> bool {
-    let is_done = match old_file(path) {
-        Old::File => write_beside(path, bytes),
-        Old::Other => write_through(path, bytes),
-        Old::Closed => failed(path),
-    };
-    if !is_done {
-        say_of(path, b": can't be written\n");
+    let w = stage_file(path, bytes);
+    keep_file(path, w)
+}
+
+// Writes all of a file, which `keep_file` puts into its place, or `drop_file` removes.
+pub fn stage_file(path: &[u8], bytes: &[u8]) -> Writing {
+    let w = begin_file(path);
+    if w.fd < 0 {
+        return w;
     }
-    is_done
+    let is_whole = io::write_all(w.fd, bytes);
+    end_file(path, w, is_whole)
 }
 
-// Says why the last call failed.
-fn failed(what: &[u8]) -> bool {
-    os::fail(what);
-    false
+// Begins a file, which is open then; or says that it is not written.
+pub fn begin_file(path: &[u8]) -> Writing {
+    match old_file(path) {
+        Old::File => begin_new(path),
+        Old::Other => begin_through(path, os::open_overwrite(path)),
+        Old::Closed => not_written(path, path),
+    }
 }
 
-// Looks at what stands at a path. Only files, and not devices or pipes, can be brought to the disk.
-fn old_file(path: &[u8]) -> Old {
-    let fd = os::open_append(path);
+// Goes on with what stands at a path, and keeps it: a link, a device or a pipe.
+pub fn begin_through(path: &[u8], fd: i32) -> Writing {
     if fd < 0 {
-        if os::errno() == libc::ENOENT {
-            return Old::File;
-        }
-        return Old::Closed;
+        return not_written(path, path);
     }
-    let status = libc::fsync(fd);
-    libc::close(fd);
-    if status < 0 {
-        return Old::Other;
+    Writing {
+        fd: fd,
+        is_new: false,
     }
-    if is_link(path) {
-        return Old::Other;
-    }
-    Old::File
 }
 
-// Writes to what stands at a path, and keeps it.
-fn write_through(path: &[u8], bytes: &[u8]) -> bool {
-    let fd = os::open_overwrite(path);
-    if fd < 0 {
-        return failed(path);
-    }
-    if write_open(fd, bytes) {
-        return true;
-    }
-    failed(path)
-}
-
-// Writes a new file and renames it.
-fn write_beside(path: &[u8], bytes: &[u8]) -> bool {
+// Begins a new file beside the old one. One that a stopped program left there is removed first.
+pub fn begin_new(path: &[u8]) -> Writing {
     let mut room = io::buffer();
     let n = put_new_path(path, &mut room);
-    write_new(&room[..n], path, bytes)
+    let fd = create_anew(&room[..n]);
+    if fd < 0 {
+        return not_written(&room[..n], path);
+    }
+    Writing {
+        fd: fd,
+        is_new: true,
+    }
 }
 
-// The same with the new file's path. A new file that is not whole, or can't be renamed, is removed again.
-fn write_new(new: &[u8], path: &[u8], bytes: &[u8]) -> bool {
-    let fd = os::create(new);
-    if fd < 0 {
-        return failed(new);
+// Makes a file, in place of one that is there.
+fn create_anew(path: &[u8]) -> i32 {
+    let fd = os::create(path);
+    if 0 <= fd {
+        return fd;
     }
-    if !write_open(fd, bytes) {
-        return removed(new);
+    if os::errno() == libc::EEXIST {
+        os::unlink(path);
+        return os::create(path);
     }
-    if os::rename(new, path) < 0 {
-        return removed(new);
+    fd
+}
+
+// Closes a file. One that is not whole, or can't be closed, is removed if it is new, and it is said that it is not written.
+pub fn end_file(path: &[u8], w: Writing, is_whole: bool) -> Writing {
+    if !is_whole {
+        let failed = not_written(path, path);
+        libc::close(w.fd);
+        drop_file(path, w);
+        return failed;
+    }
+    if libc::close(w.fd) < 0 {
+        let failed = not_written(path, path);
+        drop_file(path, w);
+        return failed;
+    }
+    w
+}
+
+// Puts a new file that is closed into the place of the old one, and answers whether the file is there then.
+pub fn keep_file(path: &[u8], w: Writing) -> bool {
+    if w.fd < 0 {
+        return false;
+    }
+    if !w.is_new {
+        return true;
+    }
+    let mut room = io::buffer();
+    let n = put_new_path(path, &mut room);
+    if os::rename(&room[..n], path) < 0 {
+        not_written(path, path);
+        os::unlink(&room[..n]);
+        return false;
     }
     true
 }
 
-// Says why the last call on a new file failed, and removes the file.
-fn removed(new: &[u8]) -> bool {
-    os::fail(new);
-    os::unlink(new);
-    false
+// Removes a new file that is closed; the old one stays.
+pub fn drop_file(path: &[u8], w: Writing) {
+    if w.fd < 0 {
+        return;
+    }
+    if !w.is_new {
+        return;
+    }
+    let mut room = io::buffer();
+    let n = put_new_path(path, &mut room);
+    os::unlink(&room[..n]);
 }
 
-// Writes all bytes to an open file and closes it; answers whether both went well.
-fn write_open(fd: i32, bytes: &[u8]) -> bool {
-    let is_whole = io::write_all(fd, bytes);
-    let status = libc::close(fd);
-    if status < 0 {
-        return false;
+// Says why the last call failed, of what, and that a file is not written.
+pub fn not_written(what: &[u8], path: &[u8]) -> Writing {
+    os::fail(what);
+    say_of(path, b": can't be written\n");
+    Writing {
+        fd: -1,
+        is_new: false,
     }
-    is_whole
 }

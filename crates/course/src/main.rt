@@ -52,6 +52,6 @@ fn run_folder(folder: &[u8]) {
     }
     let count = irq2.count;
     let mut frame = [0u8; 65536];
-    let state = run_budget(&image, &mut memory, &mut disk, &mut frame, &cycles[..count]);
-    print_line_e(state.core.status, state.core.age);
+    let end = run_budget(&image, &mut memory, &mut disk, &mut frame, &cycles[..count]);
+    print_line_e(end.state.core.status, end.state.core.age);
 }

@@ -3,9 +3,11 @@ use commands::list_file;
 use console::LINE;
 use console::append;
 use console::file_name;
+use console::hold_standard;
 use console::say;
 
 fn main() {
+    hold_standard();
     if os::arg_count() != 2 {
         print_help();
         return;

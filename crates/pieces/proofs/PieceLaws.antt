@@ -26,7 +26,8 @@ use Rattle.runner.specs.declared.RunReport.{RunReport}
 use Rattle.runner.specs.Answers.{ranReason, doneOf}
 use Rattle.runner.specs.Lab.{lab, simp, codeOf, machineOf, standingOf, areLengths, Standing}
 use Rattle.runner.proofs.RunLaws.{run-accepted}
-use Rattle.pieces.specs.Pieces.{machineAfter, linesOf, Piece}
+use Rattle.pieces.specs.declared.RunEnd.{RunEnd}
+use Rattle.pieces.specs.Pieces.{machineAfter, linesOf, isLogFull, Piece, Ends}
 use Rattle.pieces.proofs.RunLaws.{run-within, run-goes-on, run-ends, run-says}
 
 -- ---- a sound machine stays one
@@ -133,17 +134,45 @@ module _ {image irq2 : List ℕ} {budget : ℕ} {m n : Machine} {r : RunReport} 
   parts : r .cycles + (budget - r .cycles) ≡ budget
   parts = omega (arith, p .within)
 
-  -- What the rest of the budget makes of the machine after a piece, ..
-  pub rest-after : machineAfter image irq2 (budget - r .cycles) n ≡ machineAfter image irq2 budget m
-  rest-after = rw (p .machine, ← after-add simp (codeOf image irq2) (r .cycles) (budget - r .cycles) m, parts)
-
-  -- .. and what it logs then: a piece and the rest are the whole log.
+  -- What the rest of the budget logs after a piece: a piece and the rest are the whole log.
   pub rest-lines : take (r .bytes) log ++ linesOf image irq2 (budget - r .cycles) n ≡ linesOf image irq2 budget m
   rest-lines = rw (p .lines, p .machine, ← log-add simp (codeOf image irq2) (r .cycles) (budget - r .cycles) m, parts)
+
+-- ---- all runs so far
+
+-- The machine n stands in the plain machine's run from m with so much budget: so much is left.
+pub record On (image irq2 : List ℕ) (budget : ℕ) (m : Machine) (left : ℕ) (n : Machine) : Type 0 where
+  pub sound : IsSound n
+  pub within : left ≤ budget
+  pub machine : n ≡ machineAfter image irq2 (budget - left) m
+
+module _ {image irq2 : List ℕ} {budget : ℕ} {m : Machine} where
+  pub on-first : IsSound m → On image irq2 budget m budget m
+  unfolding after
+  on-first h = record { sound = h; within = omega arith; machine = ap (λ (k : ℕ). machineAfter image irq2 k m) (let none : 0 ≡ budget - budget = omega arith in none) }
+
+  module _ {left : ℕ} {n n' : Machine} {r : RunReport} {log : List ℕ} (o : On image irq2 budget m left n) (p : Piece image irq2 left n r n' log) where
+    -- A piece more.
+    pub on-more : On image irq2 budget m (left - r .cycles) n'
+    on-more =
+        record {
+          sound = p .sound;
+          within = omega (arith, o .within);
+          machine =
+              p .machine ∙ ap (machineAfter image irq2 (r .cycles)) (o .machine) ∙ sym (after-add simp (codeOf image irq2) (budget - left) (r .cycles) m)
+              ∙ ap (λ (k : ℕ). machineAfter image irq2 k m) (let so : budget - left + r .cycles ≡ budget - (left - r .cycles) = omega (arith, o .within, p .within) in so);
+        }
+
+    -- The last piece.
+    pub on-last : isLogFull (r .answer) ≡ false → n' ≡ machineAfter image irq2 budget m
+    on-last other =
+        p .ends other .0 ∙ ap (machineAfter image irq2 left) (o .machine) ∙ sym (after-add simp (codeOf image irq2) (budget - left) left m)
+        ∙ ap (λ (k : ℕ). machineAfter image irq2 k m) (let so : budget - left + left ≡ budget = omega (arith, o .within) in so)
 
 -- Before the first.
 pub fresh-sound : (state : Record) → state ≡ freshRecord → Sound (state .core) (state .regs) (state .io)
 fresh-sound state e = rw e sound-fresh
 
-pub fresh-machine : (state : Record) (memory disk frame : List ℕ) → state ≡ freshRecord → machineOf state memory disk frame ≡ freshMachine memory disk frame
-fresh-machine state memory disk frame e = rw e
+pub fresh-ends : {image irq2 : List ℕ} {budget : ℕ} {r : RunEnd} {n : Machine} (state : Record) (memory disk frame : List ℕ) → state ≡ freshRecord
+    → Ends image irq2 budget (machineOf state memory disk frame) r n → Ends image irq2 budget (freshMachine memory disk frame) r n
+fresh-ends {image} {irq2} {budget} {r} {n} state memory disk frame e h = rw e at h

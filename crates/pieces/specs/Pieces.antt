@@ -1,4 +1,4 @@
--- A run whose log is printed in pieces.
+-- Runs whose log goes out in pieces.
 use Prim.Native.Nat.{ℕ, _≤_, _<_}
 use mathlib.Core.Path.{_≡_}
 use mathlib.Core.Bool.{Bool, true, false}
@@ -12,6 +12,7 @@ use Rattle.runner.specs.declared.RunAnswer.{RunAnswer}
 use Rattle.runner.specs.declared.RunReport.{RunReport}
 use Rattle.runner.specs.Answers.{ranReason}
 use Rattle.runner.specs.Lab.{simp, codeOf}
+use Rattle.pieces.specs.declared.RunEnd.{RunEnd}
 
 -- "budget 100,000 cycles"
 abbrev pub wholeBudget : ℕ
@@ -39,3 +40,11 @@ pub record Piece (image irq2 : List ℕ) (budget : ℕ) (m : Machine) (r : RunRe
   pub goes-on : isLogFull (r .answer) ≡ true → 0 < r .cycles
   -- .. else all that the budget allows and the plain machine makes, and the log has all their lines.
   pub ends : isLogFull (r .answer) ≡ false → (n ≡ machineAfter image irq2 budget m) × (take (r .bytes) log ≡ linesOf image irq2 budget m)
+
+-- A run from m with so much budget, whose log went out in pieces, ended with r and left the machine n.
+pub record Ends (image irq2 : List ℕ) (budget : ℕ) (m : Machine) (r : RunEnd) (n : Machine) : Type 0 where
+  pub machine : n ≡ machineAfter image irq2 (r .cycles) m
+  pub within : r .cycles ≤ budget
+  pub sound : Sound (n .core) (n .regs) (n .io)
+  -- Where the whole log is written, the machine is the one after all cycles that the budget allows and the plain machine makes.
+  pub ends : r .written ≡ true → n ≡ machineAfter image irq2 budget m

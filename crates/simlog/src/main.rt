@@ -28,6 +28,6 @@ fn run_image(image: &[u64; 4096]) {
     let mut disk = [0u32; 16384];
     let mut frame = [0u8; 65536];
     let irq2 = [0u64; 0];
-    let state = run_budget(image, &mut memory, &mut disk, &mut frame, &irq2);
-    print_line_e(state.core.status, state.core.age);
+    let end = run_budget(image, &mut memory, &mut disk, &mut frame, &irq2);
+    print_line_e(end.state.core.status, end.state.core.age);
 }

@@ -1,0 +1,3 @@
+-- The texts that the programs write and print of a run.
+pub mod LogFiles
+pub mod Examples

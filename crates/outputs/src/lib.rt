@@ -1,0 +1,5 @@
+// The texts that the programs write and print of a run: the files of its log's lines, the registers and the cycles, why it stopped, and a saved
+// record by its fields.
+mod log;
+
+pub use log::take_lines;

@@ -1,10 +1,15 @@
 -- The definitions computed on document 01's example and on small texts.
 use Prim.Native.Char.{code}
-use Prim.Native.Nat.{ℕ}
+use Prim.Native.Nat.{ℕ, _-_, _^_}
 use mathlib.Core.Path.{_≡_, refl}
-use mathlib.Core.List.{List, [], _++_}
+use mathlib.Core.List.{List, [], _∷_, _++_, map}
 use Rattle.text.specs.Bytes.{bytes}
 use Rattle.text.specs.Lines.{lines, unlines}
+use Rattle.text.specs.Numerals.{digits, digitCount, digitCountUpTo, decimal}
+use Rattle.machine.specs.declared.Core.{Core}
+use Rattle.outputs.specs.Cycles.{cyclesText}
+use Rattle.outputs.specs.Statuses.{statuses, statusWords}
+use Rattle.outputs.specs.Reasons.{unfinished, fault, causeOf, reasonLine}
 use Rattle.outputs.specs.LogFiles.{linesWith}
 
 -- ---- the log of document 01's example
@@ -38,3 +43,35 @@ display-file = refl
 short-lines : linesWith (code "T") (bytes "\nT\nLT\nT 1") ≡ bytes "\n1\n"
 unfolding linesWith lines unlines
 short-lines = refl
+
+-- ---- cycles
+
+two-cycles : cyclesText 2 ≡ bytes "2\n"
+unfolding cyclesText decimal digits digitCount digitCountUpTo
+two-cycles = refl
+
+-- ---- why a run stopped
+
+-- A machine with this status and age, at PC 12.
+abbrev stopped : ℕ → ℕ → Core
+stopped status age = record { status = status; handler = 0; pc = 12; age = age; left = 0 }
+
+-- Halted, and each fault.
+each-status : map (λ n. reasonLine (stopped n 0)) (1 ∷ 2 ∷ 3 ∷ 4 ∷ 5 ∷ [])
+    ≡ bytes "stopped at PC 00C: halted\n"
+    ∷ bytes "stopped at PC 00C: fault 2, the opcode is above 21\n"
+    ∷ bytes "stopped at PC 00C: fault 3, the data address is above 4095\n"
+    ∷ bytes "stopped at PC 00C: fault 4, the I/O register is not listed\n"
+    ∷ bytes "stopped at PC 00C: fault 5, diskbuffer is above 3968 at a disk command\n"
+    ∷ []
+unfolding reasonLine causeOf fault statusWords statuses decimal digits digitCount digitCountUpTo
+each-status = refl
+
+-- Running still.
+budget-spent : reasonLine (stopped 0 100000) ≡ bytes "stopped at PC 00C: the budget is spent\n"
+unfolding reasonLine causeOf unfinished digits
+budget-spent = refl
+
+cycle-limit : reasonLine (stopped 0 (2 ^ 40 - 1)) ≡ bytes "stopped at PC 00C: at the cycle limit\n"
+unfolding reasonLine causeOf unfinished digits
+cycle-limit = refl

@@ -4,8 +4,8 @@ use mathlib.Core.Path.{_≡_, refl, _∙_}
 use native.Mathlib.Omega.{arith}
 use lib.ListN.{length, drop}
 use Rattle.text.specs.Place.{put}
-use Rattle.outputs.specs.LogFiles.{linesWith}
 use Rattle.names.proofs.NameLaws.{nothing-laid}
+use Rattle.outputs.specs.LogFiles.{linesWith}
 use Rattle.outputs.proofs.LogLaws.{none-left, take-turn, take-size}
 use Rattle.outputs.proofs.log.take_lines.Statement.{statement}
 use Rattle.outputs.proofs.log.take_lines.Tie as tie

@@ -1,0 +1,72 @@
+-- `outputs::reason::put_reason` meets its contract.
+use mathlib.Core.Path.{_∙_}
+use native.Mathlib.Omega.{arith}
+use lib.ListN.{length-set}
+use borrow.Author.Needs.{needs}
+use Rattle.outputs.proofs.StopLaws.{reason-laid}
+use Rattle.outputs.proofs.reason.put_reason.Statement.{statement}
+use Rattle.outputs.proofs.reason.put_reason.Tie as tie
+
+hex-pairs-requires : tie.Need-hex-pairs-requires
+hex-pairs-requires c κs = search needs
+
+slice-aggregate-put-bytes : tie.Need-slice-aggregate-put-bytes
+slice-aggregate-put-bytes c = search needs
+
+put-bytes-requires : tie.Need-put-bytes-requires
+put-bytes-requires c κs = search needs
+
+cast-put-hex : tie.Need-cast-put-hex
+cast-put-hex c = search needs
+
+put-hex-requires : tie.Need-put-hex-requires
+put-hex-requires c κs = search needs
+
+add-put-bytes : tie.Need-add-put-bytes
+add-put-bytes c = search needs
+
+slice-aggregate-put-bytes-2 : tie.Need-slice-aggregate-put-bytes-2
+slice-aggregate-put-bytes-2 c = search needs
+
+put-bytes-requires-2 : tie.Need-put-bytes-requires-2
+put-bytes-requires-2 c κs = search needs
+
+put-cause-requires : tie.Need-put-cause-requires
+put-cause-requires c κs = search needs
+
+slice-write-out : tie.Need-slice-write-out
+slice-write-out c = search needs
+
+add-result : tie.Need-add-result
+add-result c = search needs
+
+same-length : tie.Need-same-length
+same-length c = simp length-set (c .before .before .put-cause .kept .1 .0 ∙ c .before .before .before .before .before .before .put-bytes2 .kept .0 ∙ c .before .before .before .before .before .before .before .before .before .before .before .put-hex .kept .0 ∙ c .before .before .before .before .before .before .before .before .before .before .before .before .before .before .before .before .before .put-bytes .kept .0)
+
+returns : tie.Need-returns
+returns c =
+    let a = c .before .before .before .before .before .before .before .before .before .before .before .before .before .before .before .before .before .before .before .before .before .before .args in
+    let first = c .before .before .before .before .before .before .before .before .before .before .before .before .before .before .before .before .before .put-bytes .ensures in
+    let second = c .before .before .before .before .before .before .before .before .before .before .before .put-hex .ensures in
+    let third = c .before .before .before .before .before .before .put-bytes2 .ensures in
+    let fourth = c .before .before .put-cause .ensures in
+    let laid = reason-laid (a .core) (a .at) _ _ _ (a .out .now) _ _ _ _ (first .1) (third .1) (fourth .1) (first .0) second (third .0) (fourth .0) in
+    (laid .0, laid .1, omega (arith, first .1, third .1, fourth .2))
+
+pub put-reason-spec : {M : Type 1} → statement M
+put-reason-spec =
+    tie.close
+    (tie.spec
+    hex-pairs-requires
+    slice-aggregate-put-bytes
+    put-bytes-requires
+    cast-put-hex
+    put-hex-requires
+    add-put-bytes
+    slice-aggregate-put-bytes-2
+    put-bytes-requires-2
+    put-cause-requires
+    slice-write-out
+    add-result
+    same-length
+    returns)

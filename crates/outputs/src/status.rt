@@ -1,0 +1,23 @@
+// What a status means, in words.
+use text::place::put_bytes;
+ghost use mathlib.Core.Path.{_≡_};
+ghost use Prim.Native.Nat.{_+_, _≤_};
+ghost use lib.ListN.{length};
+ghost use Rattle.text.specs.Place.{put};
+ghost use Rattle.outputs.specs.Statuses.{statusWords};
+
+// Lays the words of a status at a place and returns the place after them; a number that is no status lays nothing.
+pub fn put_status_words(out: &mut [u8], at: usize, status: u32) -> usize
+    requires { ⌜ at + 42 ≤ length (now out) ⌝ }
+    ensures { λ r. ⌜ (now (out .exit) ≡ put (now (out .entry)) at (statusWords status)) × (r ≡ at + length (statusWords status)) × (r ≤ at + 42) ⌝ }
+{
+    match status {
+        0 => put_bytes(out, at, b"running"),
+        1 => put_bytes(out, at, b"halted"),
+        2 => put_bytes(out, at, b"the opcode is above 21"),
+        3 => put_bytes(out, at, b"the data address is above 4095"),
+        4 => put_bytes(out, at, b"the I/O register is not listed"),
+        5 => put_bytes(out, at, b"diskbuffer is above 3968 at a disk command"),
+        _ => at,
+    }
+}

@@ -11,6 +11,7 @@ use runner::run;
 use saved::fresh_record;
 ghost use mathlib.Core.Path.{_≡_};
 ghost use mathlib.Core.Bool.{true};
+ghost use Prim.Native.Nat.{_≤_};
 ghost use Rattle.files.specs.Irq2File.{rising};
 ghost use Rattle.machine.specs.State.{freshMachine};
 ghost use Rattle.machine.specs.Soundness.{Sound};
@@ -60,13 +61,14 @@ pub fn run_on(
     ensures { λ r. ⌜ Ends (now (image .entry)) (now (irq2 .entry)) budget (machineOf start (now (memory .entry)) (now (disk .entry)) (now (frame .entry))) r (machineOf (r .state) (now (memory .exit)) (now (disk .exit)) (now (frame .exit))) ⌝ }
 {
     let mut log = [0u8; 65536];
+    let mut part = [0u8; 65536];
     let mut state = start;
     let mut left = budget;
     loop {
         let piece = run_piece(state, image, memory, disk, frame, irq2, left, &mut log);
         let bytes = piece.bytes;
         let answer = piece.answer;
-        let is_sent = send(&log[..bytes], to);
+        let is_sent = send(&log[..bytes], to, &mut part);
         state = piece.state;
         left -= piece.cycles;
         if !is_sent {
@@ -100,6 +102,7 @@ fn run_piece(
 ) -> RunReport
     requires { ⌜ Sound (state .core) (state .regs) (state .io) × (rising (now irq2) ≡ true) ⌝ }
     ensures { λ r. ⌜ Piece (now (image .entry)) (now (irq2 .entry)) budget (machineOf state (now (memory .entry)) (now (disk .entry)) (now (frame .entry))) r (machineOf (r .state) (now (memory .exit)) (now (disk .exit)) (now (frame .exit))) (now (log .exit)) ⌝ }
+    ensures { λ r. ⌜ r .bytes ≤ 65536 ⌝ }
 {
     run(state, image, memory, disk, frame, irq2, budget, log)
 }

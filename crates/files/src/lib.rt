@@ -9,6 +9,7 @@ mod sizes;
 mod write;
 
 pub use irq2::read_irq2;
+pub use lay::lay_words;
 pub use read::read_data;
 pub use read::read_disk;
 pub use read::read_frame;

@@ -1,7 +1,7 @@
 -- Laws of the lines of a log that begin with a letter. Assumes nothing.
 use Prim.Native.Nat.{ℕ, _+_, _-_, _≤_, _<_}
-use mathlib.Core.Path.{_≡_, refl, sym, _∙_, ap}
-use mathlib.Core.Bool.{Bool, true, false, cond}
+use mathlib.Core.Path.{_≡_, refl, sym}
+use mathlib.Core.Bool.{Bool, true, false}
 use mathlib.Core.List.{List, [], _∷_, _++_, map, append-assoc}
 use native.Mathlib.Omega.{arith}
 use lib.Dec.{eqb}
@@ -11,9 +11,9 @@ use borrow.Author.Tests.{eq-eqb, ne-eqb}
 use Rattle.text.specs.Lines.{LF, lines, firstLine, unlines}
 use Rattle.text.specs.Place.{put}
 use Rattle.text.proofs.LineLaws.{lines-at}
-use Rattle.text.proofs.PieceLaws.{store-after}
-use Rattle.text.proofs.PutLaws.{put-nil, put-one, put-append}
-use Rattle.outputs.specs.LogFiles.{beginsWith, linesOf, linesWith, lineWith}
+use Rattle.text.proofs.PutLaws.{put-one, put-append}
+use Rattle.outputs.specs.LogFiles.{linesOf, linesWith, lineWith}
+use Rattle.outputs.proofs.PieceLaws.{ended}
 
 -- ---- one line
 
@@ -44,9 +44,7 @@ module _ (letter : ℕ) (l out : List ℕ) (at : ℕ) (first : getD l 0 0 ≡ le
       → (set e to LF ≡ put out at (lineWith letter l)) × (to + 1 ≡ at + length (lineWith letter l))
   rest-laid e to long q t =
       let whole : take (length l - 2) (drop 2 l) ≡ drop 2 l = take-all (length l - 2) (drop 2 l) (rw length-drop (omega arith)) in
-      let end : to ≡ at + length (drop 2 l) = rw whole at t in
-      rw (with-letter letter l (omega arith) first)
-      (store-after out e at to LF (drop 2 l) end (rw whole at q), rw length-append (omega arith))
+      rw (with-letter letter l (omega arith) first) (ended out e at to (drop 2 l) (rw whole at q, rw whole at t))
 
 -- ---- line after line
 

@@ -3,9 +3,12 @@ use Prim.Native.Char.{code}
 use Prim.Native.Nat.{ℕ, _-_, _^_}
 use mathlib.Core.Path.{_≡_, refl}
 use mathlib.Core.List.{List, [], _∷_, _++_, map}
+use lib.ListN.{length, replicate}
 use Rattle.text.specs.Bytes.{bytes}
 use Rattle.text.specs.Lines.{lines, unlines}
 use Rattle.text.specs.Numerals.{digits, digitCount, digitCountUpTo, decimal}
+use Rattle.files.specs.Sizes.{wordDigits}
+use Rattle.files.specs.MemoryFile.{fileText}
 use Rattle.machine.specs.declared.Core.{Core}
 use Rattle.outputs.specs.Cycles.{cyclesText}
 use Rattle.outputs.specs.Statuses.{statuses, statusWords}
@@ -49,6 +52,17 @@ short-lines = refl
 two-cycles : cyclesText 2 ≡ bytes "2\n"
 unfolding cyclesText decimal digits digitCount digitCountUpTo
 two-cycles = refl
+
+-- ---- registers
+
+-- Thirteen lines of nine bytes.
+register-bytes : length (fileText wordDigits (replicate 13 0)) ≡ 117
+unfolding fileText unlines digits
+register-bytes = refl
+
+two-registers : fileText wordDigits (5 ∷ 0xFFFFFFFC ∷ []) ≡ bytes "00000005\nFFFFFFFC\n"
+unfolding fileText unlines digits
+two-registers = refl
 
 -- ---- why a run stopped
 

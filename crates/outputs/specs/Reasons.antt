@@ -19,7 +19,7 @@ fault status = bytes "fault " ++ decimal status ++ bytes ", " ++ statusWords sta
 
 -- Why the run stopped, by the machine's status.
 unfoldable pub causeOf : Core → List ℕ
-causeOf c = cond (eqb (c .status) 0) (unfinished (c .age)) (cond (eqb (c .status) 1) (statusWords 1) (fault (c .status)))
+causeOf c = cond (eqb (c .status) 0) (unfinished (c .age)) (cond (eqb (c .status) 1) (bytes "halted") (fault (c .status)))
 
 -- As `stopped at PC 00C: halted`.
 unfoldable pub reasonLine : Core → List ℕ

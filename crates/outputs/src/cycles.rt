@@ -1,6 +1,5 @@
 // cycles.txt.
-use text::decimal::put_decimal;
-use text::lines::LF;
+use crate::numbers::put_number_line;
 ghost use mathlib.Core.Path.{_≡_};
 ghost use Prim.Native.Nat.{_≤_};
 ghost use lib.ListN.{length};
@@ -12,7 +11,5 @@ pub fn put_cycles(age: u64, out: &mut [u8]) -> usize
     requires { ⌜ 21 ≤ length (now out) ⌝ }
     ensures { λ r. ⌜ (now (out .exit) ≡ put (now (out .entry)) 0 (cyclesText age)) × (r ≡ length (cyclesText age)) × (r ≤ 21) ⌝ }
 {
-    let end = put_decimal(out, 0, age);
-    out[end] = LF;
-    end + 1
+    put_number_line(b"", age, out, 0)
 }

@@ -1,16 +1,14 @@
 // Where and why a run stopped.
-use crate::status::put_status_words;
+use crate::pc::put_pc;
+use crate::status::put_status;
 use machine::Core;
-use text::decimal::put_decimal;
-use text::digits::hex_pairs;
-use text::digits::put_hex;
 use text::lines::LF;
 use text::place::put_bytes;
 ghost use mathlib.Core.Path.{_≡_};
 ghost use Prim.Native.Nat.{_+_, _≤_};
 ghost use lib.ListN.{length};
 ghost use Rattle.text.specs.Place.{put};
-ghost use Rattle.outputs.specs.Reasons.{unfinished, fault, causeOf, reasonLine};
+ghost use Rattle.outputs.specs.Reasons.{unfinished, causeOf, reasonLine};
 
 // The age at which a machine makes no cycle any more.
 const CYCLE_LIMIT: u64 = 0xFF_FFFF_FFFF;
@@ -20,10 +18,9 @@ pub fn put_reason(core: Core, out: &mut [u8], at: usize) -> usize
     requires { ⌜ at + 80 ≤ length (now out) ⌝ }
     ensures { λ r. ⌜ (now (out .exit) ≡ put (now (out .entry)) at (reasonLine core)) × (r ≡ at + length (reasonLine core)) × (r ≤ at + 80) ⌝ }
 {
-    let pairs = hex_pairs();
     let pc_at = put_bytes(out, at, b"stopped at PC ");
-    put_hex(out, pc_at, 3, core.pc as u64, &pairs);
-    let cause_at = put_bytes(out, pc_at + 3, b": ");
+    let colon_at = put_pc(out, pc_at, core.pc);
+    let cause_at = put_bytes(out, colon_at, b": ");
     let end = put_cause(core, out, cause_at);
     out[end] = LF;
     end + 1
@@ -38,9 +35,9 @@ fn put_cause(core: Core, out: &mut [u8], at: usize) -> usize
         return put_unfinished(core.age, out, at);
     }
     if core.status == 1 {
-        return put_status_words(out, at, 1);
+        return put_bytes(out, at, b"halted");
     }
-    put_fault(core.status, out, at)
+    put_status(b"fault ", core.status, b", ", out, at)
 }
 
 // Why a run stopped whose machine is running still.
@@ -52,15 +49,4 @@ fn put_unfinished(age: u64, out: &mut [u8], at: usize) -> usize
         return put_bytes(out, at, b"at the cycle limit");
     }
     put_bytes(out, at, b"the budget is spent")
-}
-
-// A fault: its number and its words.
-fn put_fault(status: u32, out: &mut [u8], at: usize) -> usize
-    requires { ⌜ at + 60 ≤ length (now out) ⌝ }
-    ensures { λ r. ⌜ (now (out .exit) ≡ put (now (out .entry)) at (fault status)) × (r ≡ at + length (fault status)) × (r ≤ at + 60) ⌝ }
-{
-    let number_at = put_bytes(out, at, b"fault ");
-    let comma_at = put_decimal(out, number_at, status as u64);
-    let words_at = put_bytes(out, comma_at, b", ");
-    put_status_words(out, words_at, status)
 }

@@ -1,13 +1,27 @@
 // What a status means, in words.
+use text::decimal::put_decimal;
 use text::place::put_bytes;
 ghost use mathlib.Core.Path.{_≡_};
+ghost use mathlib.Core.List.{_++_};
 ghost use Prim.Native.Nat.{_+_, _≤_};
 ghost use lib.ListN.{length};
+ghost use Rattle.text.specs.Numerals.{decimal};
 ghost use Rattle.text.specs.Place.{put};
 ghost use Rattle.outputs.specs.Statuses.{statusWords};
 
+// Lays a status at a place, what stands in front of its number, the number, what stands between, and its words; returns the place after them.
+pub fn put_status(front: &[u8], status: u32, between: &[u8], out: &mut [u8], at: usize) -> usize
+    requires { ⌜ at + length (now front) + length (now between) + 52 ≤ length (now out) ⌝ }
+    ensures { λ r. ⌜ (now (out .exit) ≡ put (now (out .entry)) at (now (front .entry) ++ decimal status ++ now (between .entry) ++ statusWords status)) × (r ≡ at + length (now (front .entry) ++ decimal status ++ now (between .entry) ++ statusWords status)) × (r ≤ at + length (now (front .entry)) + length (now (between .entry)) + 52) ⌝ }
+{
+    let number_at = put_bytes(out, at, front);
+    let between_at = put_decimal(out, number_at, status as u64);
+    let words_at = put_bytes(out, between_at, between);
+    put_status_words(out, words_at, status)
+}
+
 // Lays the words of a status at a place and returns the place after them; a number that is no status lays nothing.
-pub fn put_status_words(out: &mut [u8], at: usize, status: u32) -> usize
+fn put_status_words(out: &mut [u8], at: usize, status: u32) -> usize
     requires { ⌜ at + 42 ≤ length (now out) ⌝ }
     ensures { λ r. ⌜ (now (out .exit) ≡ put (now (out .entry)) at (statusWords status)) × (r ≡ at + length (statusWords status)) × (r ≤ at + 42) ⌝ }
 {

@@ -2,7 +2,7 @@
 use native.Mathlib.Omega.{arith}
 use borrow.Author.Tests.{eq-eqb, ne-eqb}
 use borrow.Author.Needs.{needs}
-use Rattle.outputs.specs.Reasons.{causeOf}
+use Rattle.outputs.specs.Reasons.{causeOf, fault}
 use Rattle.outputs.proofs.reason.put_cause.Statement.{statement}
 use Rattle.outputs.proofs.reason.put_cause.Tie as tie
 
@@ -16,8 +16,11 @@ returns : tie.Need-returns
 unfolding causeOf
 returns c = let e = c .before .before .put-unfinished .ensures in let running = eq-eqb _ _ (c .before .before .before .before .if1 .taken) in (rw running (e .0), rw running (e .1), e .2)
 
-put-status-words-requires : tie.Need-put-status-words-requires
-put-status-words-requires c κs = search needs
+slice-aggregate-put-bytes : tie.Need-slice-aggregate-put-bytes
+slice-aggregate-put-bytes c = search needs
+
+put-bytes-requires : tie.Need-put-bytes-requires
+put-bytes-requires c κs = search needs
 
 same-length-2 : tie.Need-same-length-2
 same-length-2 c = search needs
@@ -25,24 +28,30 @@ same-length-2 c = search needs
 returns-2 : tie.Need-returns-2
 unfolding causeOf
 returns-2 c =
-    let e = c .before .before .put-status-words .ensures in
-    let stopped = ne-eqb _ _ (c .before .before .before .before .before .before .if1 .left) in
-    let halted = eq-eqb _ _ (c .before .before .before .before .if2 .taken) in
-    (rw (stopped, halted) (e .0), rw (stopped, halted) (e .1), omega (arith, e .2))
+    let e = c .before .before .put-bytes .ensures in
+    let stopped = ne-eqb _ _ (c .before .before .before .before .before .before .before .if1 .left) in
+    let halted = eq-eqb _ _ (c .before .before .before .before .before .if2 .taken) in
+    (rw (stopped, halted) (e .0), rw (stopped, halted) (e .1), omega (arith, e .1))
 
-put-fault-requires : tie.Need-put-fault-requires
-put-fault-requires c κs = search needs
+slice-aggregate-put-status : tie.Need-slice-aggregate-put-status
+slice-aggregate-put-status c = search needs
+
+slice-aggregate-put-status-2 : tie.Need-slice-aggregate-put-status-2
+slice-aggregate-put-status-2 c = search needs
+
+put-status-requires : tie.Need-put-status-requires
+put-status-requires c κs = search needs
 
 same-length-3 : tie.Need-same-length-3
 same-length-3 c = search needs
 
 returns-3 : tie.Need-returns-3
-unfolding causeOf
+unfolding causeOf fault
 returns-3 c =
-    let e = c .before .before .put-fault .ensures in
-    let stopped = ne-eqb _ _ (c .before .before .before .before .before .before .if1 .left) in
-    let fault = ne-eqb _ _ (c .before .before .before .before .if2 .left) in
-    (rw (stopped, fault) (e .0), rw (stopped, fault) (e .1), e .2)
+    let e = c .before .before .put-status .ensures in
+    let stopped = ne-eqb _ _ (c .before .before .before .before .before .before .before .before .if1 .left) in
+    let faulty = ne-eqb _ _ (c .before .before .before .before .before .before .if2 .left) in
+    (rw (stopped, faulty) (e .0), rw (stopped, faulty) (e .1), omega (arith, e .2))
 
 pub put-cause-spec : {M : Type 1} → statement M
 put-cause-spec =
@@ -51,9 +60,12 @@ put-cause-spec =
     put-unfinished-requires
     same-length
     returns
-    put-status-words-requires
+    slice-aggregate-put-bytes
+    put-bytes-requires
     same-length-2
     returns-2
-    put-fault-requires
+    slice-aggregate-put-status
+    slice-aggregate-put-status-2
+    put-status-requires
     same-length-3
     returns-3)

@@ -7,23 +7,14 @@ use Rattle.outputs.proofs.StopLaws.{reason-laid}
 use Rattle.outputs.proofs.reason.put_reason.Statement.{statement}
 use Rattle.outputs.proofs.reason.put_reason.Tie as tie
 
-hex-pairs-requires : tie.Need-hex-pairs-requires
-hex-pairs-requires c κs = search needs
-
 slice-aggregate-put-bytes : tie.Need-slice-aggregate-put-bytes
 slice-aggregate-put-bytes c = search needs
 
 put-bytes-requires : tie.Need-put-bytes-requires
 put-bytes-requires c κs = search needs
 
-cast-put-hex : tie.Need-cast-put-hex
-cast-put-hex c = search needs
-
-put-hex-requires : tie.Need-put-hex-requires
-put-hex-requires c κs = search needs
-
-add-put-bytes : tie.Need-add-put-bytes
-add-put-bytes c = search needs
+put-pc-requires : tie.Need-put-pc-requires
+put-pc-requires c κs = search needs
 
 slice-aggregate-put-bytes-2 : tie.Need-slice-aggregate-put-bytes-2
 slice-aggregate-put-bytes-2 c = search needs
@@ -41,28 +32,25 @@ add-result : tie.Need-add-result
 add-result c = search needs
 
 same-length : tie.Need-same-length
-same-length c = simp length-set (c .before .before .put-cause .kept .1 .0 ∙ c .before .before .before .before .before .before .put-bytes2 .kept .0 ∙ c .before .before .before .before .before .before .before .before .before .before .before .put-hex .kept .0 ∙ c .before .before .before .before .before .before .before .before .before .before .before .before .before .before .before .before .before .put-bytes .kept .0)
+same-length c = simp length-set (c .before .before .put-cause .kept .1 .0 ∙ c .before .before .before .before .before .before .put-bytes2 .kept .0 ∙ c .before .before .before .before .before .before .before .before .before .before .before .put-pc .kept .0 ∙ c .before .before .before .before .before .before .before .before .before .before .before .before .before .before .before .put-bytes .kept .0)
 
 returns : tie.Need-returns
 returns c =
-    let a = c .before .before .before .before .before .before .before .before .before .before .before .before .before .before .before .before .before .before .before .before .before .before .args in
-    let first = c .before .before .before .before .before .before .before .before .before .before .before .before .before .before .before .before .before .put-bytes .ensures in
-    let second = c .before .before .before .before .before .before .before .before .before .before .before .put-hex .ensures in
+    let a = c .before .before .before .before .before .before .before .before .before .before .before .before .before .before .before .before .before .before .before .args in
+    let first = c .before .before .before .before .before .before .before .before .before .before .before .before .before .before .before .put-bytes .ensures in
+    let second = c .before .before .before .before .before .before .before .before .before .before .before .put-pc .ensures in
     let third = c .before .before .before .before .before .before .put-bytes2 .ensures in
     let fourth = c .before .before .put-cause .ensures in
-    let laid = reason-laid (a .core) (a .at) _ _ _ (a .out .now) _ _ _ _ (first .1) (third .1) (fourth .1) (first .0) second (third .0) (fourth .0) in
-    (laid .0, laid .1, omega (arith, first .1, third .1, fourth .2))
+    let laid = reason-laid (a .core) (a .at) _ _ _ _ (a .out .now) _ _ _ _ first (second .0) (second .1) third (fourth .0, fourth .1) in
+    (laid .0, laid .1, omega (arith, first .1, second .1, third .1, fourth .2))
 
 pub put-reason-spec : {M : Type 1} → statement M
 put-reason-spec =
     tie.close
     (tie.spec
-    hex-pairs-requires
     slice-aggregate-put-bytes
     put-bytes-requires
-    cast-put-hex
-    put-hex-requires
-    add-put-bytes
+    put-pc-requires
     slice-aggregate-put-bytes-2
     put-bytes-requires-2
     put-cause-requires

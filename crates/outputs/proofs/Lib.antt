@@ -2,3 +2,5 @@
 pub mod PieceLaws
 pub mod LogLaws
 pub mod StopLaws
+pub mod RegisterLaws
+pub mod RecordLaws

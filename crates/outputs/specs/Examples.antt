@@ -3,16 +3,19 @@ use Prim.Native.Char.{code}
 use Prim.Native.Nat.{ℕ, _-_, _^_}
 use mathlib.Core.Path.{_≡_, refl}
 use mathlib.Core.List.{List, [], _∷_, _++_, map}
-use lib.ListN.{length, replicate}
+use lib.ListN.{length, set, replicate}
 use Rattle.text.specs.Bytes.{bytes}
 use Rattle.text.specs.Lines.{lines, unlines}
 use Rattle.text.specs.Numerals.{digits, digitCount, digitCountUpTo, decimal}
+use Rattle.isa.specs.Registers.{registerNames, registerName, ioRegisters, ioName, clks, leds}
 use Rattle.files.specs.Sizes.{wordDigits}
 use Rattle.files.specs.MemoryFile.{fileText}
 use Rattle.machine.specs.declared.Core.{Core}
+use Rattle.machine.specs.declared.Record.{Record}
 use Rattle.outputs.specs.Cycles.{cyclesText}
 use Rattle.outputs.specs.Statuses.{statuses, statusWords}
 use Rattle.outputs.specs.Reasons.{unfinished, fault, causeOf, reasonLine}
+use Rattle.outputs.specs.RecordText.{statusLine, pcLine, coreLines, wordLine, recordText}
 use Rattle.outputs.specs.LogFiles.{linesWith}
 
 -- ---- the log of document 01's example
@@ -89,3 +92,56 @@ budget-spent = refl
 cycle-limit : reasonLine (stopped 0 (2 ^ 40 - 1)) ≡ bytes "stopped at PC 00C: at the cycle limit\n"
 unfolding reasonLine causeOf unfinished digits
 cycle-limit = refl
+
+-- ---- a record
+
+-- The record at the end of document 01's example.
+abbrev exampleRecord : Record
+exampleRecord =
+    record {
+      core = record { status = 1; handler = 0; pc = 1; age = 2; left = 0 };
+      regs = replicate 13 0;
+      io = set (set (replicate 23 0) clks 2) leds 5;
+    }
+
+example-record : recordText exampleRecord
+    ≡ bytes "status 1 halted\n"
+    ++ bytes "handler 0\n"
+    ++ bytes "pc 001\n"
+    ++ bytes "age 2\n"
+    ++ bytes "left 0\n"
+    ++ bytes "$v0 00000000\n"
+    ++ bytes "$a0 00000000\n"
+    ++ bytes "$a1 00000000\n"
+    ++ bytes "$a2 00000000\n"
+    ++ bytes "$t0 00000000\n"
+    ++ bytes "$t1 00000000\n"
+    ++ bytes "$t2 00000000\n"
+    ++ bytes "$s0 00000000\n"
+    ++ bytes "$s1 00000000\n"
+    ++ bytes "$s2 00000000\n"
+    ++ bytes "$gp 00000000\n"
+    ++ bytes "$sp 00000000\n"
+    ++ bytes "$ra 00000000\n"
+    ++ bytes "irq0enable 00000000\n"
+    ++ bytes "irq1enable 00000000\n"
+    ++ bytes "irq2enable 00000000\n"
+    ++ bytes "irq0status 00000000\n"
+    ++ bytes "irq1status 00000000\n"
+    ++ bytes "irq2status 00000000\n"
+    ++ bytes "irqhandler 00000000\n"
+    ++ bytes "irqreturn 00000000\n"
+    ++ bytes "clks 00000002\n"
+    ++ bytes "leds 00000005\n"
+    ++ bytes "display7seg 00000000\n"
+    ++ bytes "timerenable 00000000\n"
+    ++ bytes "timercurrent 00000000\n"
+    ++ bytes "timermax 00000000\n"
+    ++ bytes "diskcmd 00000000\n"
+    ++ bytes "disksector 00000000\n"
+    ++ bytes "diskbuffer 00000000\n"
+    ++ bytes "diskstatus 00000000\n"
+    ++ bytes "monitoraddr 00000000\n"
+    ++ bytes "monitordata 00000000\n"
+unfolding recordText coreLines statusLine pcLine wordLine statusWords statuses registerName registerNames ioName ioRegisters unlines decimal digits digitCount digitCountUpTo
+example-record = refl

@@ -3,4 +3,5 @@ pub mod LogFiles
 pub mod Cycles
 pub mod Statuses
 pub mod Reasons
+pub mod RecordText
 pub mod Examples

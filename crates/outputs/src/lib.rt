@@ -1,13 +1,18 @@
-// The texts that the programs write and print of a run: the files of its log's lines, the registers and the cycles, and why it stopped.
+// The texts that the programs write and print of a run: the files of its log's lines, the registers and the cycles, why it stopped, and a saved
+// record by its fields.
+mod core_lines;
 mod cycles;
 mod log;
 mod numbers;
 mod pc;
 mod reason;
+mod record;
+mod register_lines;
 mod registers;
 mod status;
 
 pub use cycles::put_cycles;
 pub use log::take_lines;
 pub use reason::put_reason;
+pub use record::put_record;
 pub use registers::put_registers;

@@ -1,0 +1,71 @@
+-- The registers' names and numbers, and their lines, as the code lays them. Assumes nothing.
+use Prim.Native.Nat.{ℕ, _+_, _-_, _*_, _/_, _%_, _≤_, _<_}
+use mathlib.Core.Path.{_≡_, refl, sym, _∙_}
+use mathlib.Core.List.{List, [], _∷_, _++_, append-assoc}
+use native.Mathlib.Omega.{arith}
+use lib.Dec.{eqb}
+use lib.ListN.{length, getD, take, drop, length-append, length-drop}
+use lib.Seq.{getD-take, getD-drop, length-take-le, ext-getD}
+use borrow.Author.Tests.{eqb-true}
+use Rattle.text.specs.Bytes.{bytes}
+use Rattle.text.specs.Lines.{LF}
+use Rattle.text.specs.Numerals.{digits}
+use Rattle.text.specs.Place.{put}
+use Rattle.text.proofs.DigitLaws.{length-digits}
+use Rattle.text.proofs.Truth.{below, between}
+use Rattle.trace.specs.LogLines.{field}
+use Rattle.isa.specs.Registers.{registerNames, registerName}
+use Rattle.outputs.specs.RecordText.{wordLine, savedRegisters, savedIo}
+use Rattle.outputs.proofs.PieceLaws.{Piece, joined}
+
+-- A name and a word on a line.
+pub word-laid : (name : List ℕ) (x at p q : ℕ) (d e f : List ℕ) → Piece d at name e p → f ≡ put e p (field (digits 16 8 x) ++ (LF ∷ [])) → q ≡ p + 10
+    → Piece d at (wordLine name x ++ (LF ∷ [])) f q
+unfolding wordLine
+word-laid name x at p q d e f first second t =
+    rw append-assoc
+    (joined d e f at p q name (field (digits 16 8 x) ++ (LF ∷ [])) first (second, simp (length-append, length-digits) (omega arith)))
+
+-- The names of R3 to R15, three bytes each.
+abbrev pub names : List ℕ
+names = bytes "$v0$a0$a1$a2$t0$t1$t2$s0$s1$s2$gp$sp$ra"
+
+name-length : (i : ℕ) → i < 13 → length (registerName (3 + i)) ≡ 3
+unfolding registerName registerNames
+name-length i h = eqb-true _ _ (below (λ k. eqb (length (registerName (3 + k))) 3) 13 refl i h)
+
+name-byte : (k : ℕ) → k < 39 → getD names k 0 ≡ getD (registerName (3 + k / 3)) (k % 3) 0
+unfolding registerName registerNames
+name-byte k h = eqb-true _ _ (below (λ n. eqb (getD names n 0) (getD (registerName (3 + n / 3)) (n % 3) 0)) 39 refl k h)
+
+pub name-part : (i : ℕ) → i < 13 → take 3 (drop (i * 3) names) ≡ registerName (3 + i)
+name-part i h =
+    let part : length (take 3 (drop (i * 3) names)) ≡ 3 = length-take-le 3 (drop (i * 3) names) (rw length-drop (omega arith)) in
+    ext-getD 0 (take 3 (drop (i * 3) names)) (registerName (3 + i)) (part ∙ sym (name-length i h)) each
+  where
+    each : (j : ℕ) → j < length (take 3 (drop (i * 3) names)) → getD (take 3 (drop (i * 3) names)) j 0 ≡ getD (registerName (3 + i)) j 0
+    each j l =
+        let part : length (take 3 (drop (i * 3) names)) ≡ 3 = length-take-le 3 (drop (i * 3) names) (rw length-drop (omega arith)) in
+        let low : j < 3 = omega arith in
+        let place : (i * 3 + j) / 3 ≡ i = omega arith in
+        let left : (i * 3 + j) % 3 ≡ j = omega arith in
+        getD-take 3 (drop (i * 3) names) j 0 low ∙ getD-drop (i * 3) names j 0 ∙ rw (place, left) at (name-byte (i * 3 + j) (omega arith))
+
+pub register-laid : (i x at p q : ℕ) (d e f : List ℕ) → i < 13 → Piece d at (take (i * 3 + 3 - i * 3) (drop (i * 3) names)) e p
+    → f ≡ put e p (field (digits 16 8 x) ++ (LF ∷ [])) → q ≡ p + 10
+    → Piece d at (wordLine (registerName (3 + i)) x ++ (LF ∷ [])) f q × (q ≡ at + 13)
+register-laid i x at p q d e f h first second t =
+    let three : i * 3 + 3 - i * 3 ≡ 3 = omega arith in
+    let name : Piece d at (registerName (3 + i)) e p = rw (three, name-part i h) at first in
+    (word-laid (registerName (3 + i)) x at p q d e f name second t, omega (arith, name .1, name-length i h))
+
+-- The numbers of the registers in turn, ..
+pub register-number : (i : ℕ) → i < 13 → 3 + i ≡ getD savedRegisters i 0
+register-number i h = eqb-true _ _ (below (λ k. eqb (3 + k) (getD savedRegisters k 0)) 13 refl i h)
+
+-- .. and of the I/O registers.
+pub io-number : (i : ℕ) → i < 18 → i ≡ getD savedIo i 0
+io-number i h = eqb-true _ _ (below (λ k. eqb k (getD savedIo k 0)) 18 refl i h)
+
+pub io-number-after : (i : ℕ) → 18 ≤ i → i < 20 → i + 2 ≡ getD savedIo i 0
+io-number-after i low high = eqb-true _ _ (between (λ k. eqb (k + 2) (getD savedIo k 0)) 18 20 refl i low high)

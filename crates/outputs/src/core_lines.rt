@@ -1,0 +1,47 @@
+// The scalars of a record, a line each.
+use crate::numbers::put_number_line;
+use crate::pc::put_pc;
+use crate::status::put_status;
+use machine::Core;
+use text::lines::LF;
+use text::place::put_bytes;
+ghost use mathlib.Core.Path.{_≡_};
+ghost use mathlib.Core.List.{[], _∷_, _++_};
+ghost use Prim.Native.Nat.{_+_, _≤_};
+ghost use lib.ListN.{length};
+ghost use Rattle.text.specs.Lines.{LF as lf, unlines};
+ghost use Rattle.text.specs.Place.{put};
+ghost use Rattle.outputs.specs.RecordText.{statusLine, pcLine, coreLines};
+
+// Lays status, handler, PC, age and left at the front and returns the place after them.
+pub fn put_core_lines(core: Core, out: &mut [u8]) -> usize
+    requires { ⌜ 148 ≤ length (now out) ⌝ }
+    ensures { λ r. ⌜ (now (out .exit) ≡ put (now (out .entry)) 0 (unlines (coreLines core))) × (r ≡ length (unlines (coreLines core))) × (r ≤ 148) ⌝ }
+{
+    let handler_at = put_status_line(core.status, out);
+    let pc_at = put_number_line(b"handler ", core.handler as u64, out, handler_at);
+    let age_at = put_pc_line(core.pc, out, pc_at);
+    let left_at = put_number_line(b"age ", core.age, out, age_at);
+    put_number_line(b"left ", core.left as u64, out, left_at)
+}
+
+// Lays the status and its meaning at the front and returns the place after them.
+fn put_status_line(status: u32, out: &mut [u8]) -> usize
+    requires { ⌜ 61 ≤ length (now out) ⌝ }
+    ensures { λ r. ⌜ (now (out .exit) ≡ put (now (out .entry)) 0 (statusLine status ++ (lf ∷ []))) × (r ≡ length (statusLine status ++ (lf ∷ []))) × (r ≤ 61) ⌝ }
+{
+    let end = put_status(b"status ", status, b" ", out, 0);
+    out[end] = LF;
+    end + 1
+}
+
+// Lays PC at a place and returns the place after it.
+fn put_pc_line(pc: u32, out: &mut [u8], at: usize) -> usize
+    requires { ⌜ at + 7 ≤ length (now out) ⌝ }
+    ensures { λ r. ⌜ (now (out .exit) ≡ put (now (out .entry)) at (pcLine pc ++ (lf ∷ []))) × (r ≡ at + length (pcLine pc ++ (lf ∷ []))) × (r ≡ at + 7) ⌝ }
+{
+    let digits_at = put_bytes(out, at, b"pc ");
+    let end = put_pc(out, digits_at, pc);
+    out[end] = LF;
+    end + 1
+}

@@ -6,13 +6,15 @@ use native.Mathlib.Nat.{zero-add}
 use native.Mathlib.Numerals.{add-one}
 use native.Mathlib.Omega.{arith}
 use lib.ListN.{length, getD, take, set, length-append}
-use lib.Seq.{take-suc, take-all}
+use lib.Seq.{take-suc, take-all, length-take-le}
 use Rattle.text.specs.Lines.{LF, unlines}
 use Rattle.text.specs.Numerals.{digitCount, digits, decimal}
 use Rattle.text.specs.Place.{put}
 use Rattle.text.proofs.DecimalLaws.{length-decimal}
 use Rattle.text.proofs.DigitLaws.{length-digits}
 use Rattle.text.proofs.PieceLaws.{more, store-after}
+use Rattle.text.proofs.PutLaws.{length-put}
+use Rattle.io.specs.Counts.{Counts}
 
 -- The list d has become e, with xs laid at a place, and the place after them is `to`.
 abbrev pub Piece : List ℕ → ℕ → List ℕ → List ℕ → ℕ → Type 0
@@ -32,6 +34,12 @@ from-front d e p xs laid size = (laid, size ∙ sym (zero-add (length xs)))
 
 pub at-front : (d e : List ℕ) (p : ℕ) (xs : List ℕ) → Piece d 0 xs e p → p ≡ length xs
 at-front d e p xs piece = piece .1 ∙ zero-add (length xs)
+
+-- The place after a piece counts bytes within the list.
+pub counted : (d e : List ℕ) (at to : ℕ) (xs : List ℕ) → e ≡ put d at xs → to ≤ length d → Counts to e
+counted d e at to xs laid room =
+    let fits : to ≤ length e = rw (laid, length-put) room in
+    (fits, sym (length-take-le to e fits))
 
 -- A number in decimal after a piece.
 pub numbered : (front : List ℕ) (v at p q : ℕ) (d e f : List ℕ) → Piece d at front e p → f ≡ put e p (decimal v) → q ≡ p + digitCount 10 v

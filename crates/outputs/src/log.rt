@@ -6,13 +6,14 @@ ghost use mathlib.Core.Path.{_≡_};
 ghost use Prim.Native.Nat.{_+_, _≤_};
 ghost use lib.ListN.{length};
 ghost use Rattle.text.specs.Place.{put};
+ghost use Rattle.io.specs.Counts.{Counts};
 ghost use Rattle.outputs.specs.LogFiles.{linesWith, lineWith};
 
 // Lays the lines of a log that begin with a letter, each without the letter and the blank after it, at the front and returns how many bytes they
 // have.
 pub fn take_lines(log: &[u8], letter: u8, out: &mut [u8]) -> usize
     requires { ⌜ length (now log) ≤ length (now out) ⌝ }
-    ensures { λ r. ⌜ (now (out .exit) ≡ put (now (out .entry)) 0 (linesWith letter (now (log .entry)))) × (r ≡ length (linesWith letter (now (log .entry)))) × (r ≤ length (now (log .entry))) ⌝ }
+    ensures { λ r. ⌜ (now (out .exit) ≡ put (now (out .entry)) 0 (linesWith letter (now (log .entry)))) × (r ≡ length (linesWith letter (now (log .entry)))) × (r ≤ length (now (log .entry))) × Counts r (now (out .exit)) ⌝ }
 {
     let mut at = 0;
     let mut from = 0;

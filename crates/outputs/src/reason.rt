@@ -8,6 +8,7 @@ ghost use mathlib.Core.Path.{_≡_};
 ghost use Prim.Native.Nat.{_+_, _≤_};
 ghost use lib.ListN.{length};
 ghost use Rattle.text.specs.Place.{put};
+ghost use Rattle.io.specs.Counts.{Counts};
 ghost use Rattle.outputs.specs.Reasons.{unfinished, causeOf, reasonLine};
 
 // The age at which a machine makes no cycle any more.
@@ -16,7 +17,7 @@ const CYCLE_LIMIT: u64 = 0xFF_FFFF_FFFF;
 // Lays the line of where and why a run stopped at a place and returns the place after it.
 pub fn put_reason(core: Core, out: &mut [u8], at: usize) -> usize
     requires { ⌜ at + 80 ≤ length (now out) ⌝ }
-    ensures { λ r. ⌜ (now (out .exit) ≡ put (now (out .entry)) at (reasonLine core)) × (r ≡ at + length (reasonLine core)) × (r ≤ at + 80) ⌝ }
+    ensures { λ r. ⌜ (now (out .exit) ≡ put (now (out .entry)) at (reasonLine core)) × (r ≡ at + length (reasonLine core)) × (r ≤ at + 80) × Counts r (now (out .exit)) ⌝ }
 {
     let pc_at = put_bytes(out, at, b"stopped at PC ");
     let colon_at = put_pc(out, pc_at, core.pc);

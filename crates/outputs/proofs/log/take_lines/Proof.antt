@@ -5,6 +5,7 @@ use native.Mathlib.Omega.{arith}
 use lib.ListN.{length, drop}
 use Rattle.text.specs.Place.{put}
 use Rattle.names.proofs.NameLaws.{nothing-laid}
+use Rattle.outputs.proofs.PieceLaws.{counted}
 use Rattle.outputs.specs.LogFiles.{linesWith}
 use Rattle.outputs.proofs.LogLaws.{none-left, take-turn, take-size}
 use Rattle.outputs.proofs.log.take_lines.Statement.{statement}
@@ -63,7 +64,8 @@ returns c =
     let a = c .before .before .before .before .args in
     let l = c .before .loop in
     let laid = nothing-laid (l .out) (l .at) _ (none-left (a .letter) (a .log .now) (l .from) (c .loop-test .left)) in
-    (laid .0 ∙ l .inv .0, laid .1 ∙ l .inv .1, l .inv .4)
+    let whole = laid .0 ∙ l .inv .0 in
+    (whole, laid .1 ∙ l .inv .1, l .inv .4, counted (a .out .now) _ 0 _ _ whole (omega arith))
 
 pub take-lines-spec : {M : Type 1} → statement M
 take-lines-spec =

@@ -1,8 +1,13 @@
-// The commands `asm` and `list`, as calls on names of files. Each says on standard output how it went.
+// The commands `asm`, `list`, `show` and `picture`, on the files that a program's arguments name. Each says on standard output how it went.
 mod assembling;
+mod drawing;
 mod instructions;
 mod listing;
 mod names;
+mod showing;
 
 pub use assembling::assemble_file;
+pub use drawing::draw_frame;
 pub use listing::list_file;
+pub use names::are_same;
+pub use showing::show_record;

@@ -1,17 +1,27 @@
 // Names of files.
 
-// Whether two of three names are the same.
-pub fn has_same(a: &[u8], b: &[u8], c: &[u8]) -> bool {
-    if are_same(a, b) {
+// Whether two of the names that three arguments give are the same.
+pub fn has_same(a: usize, b: usize, c: usize) -> bool {
+    if name_same(a, b) {
         return true;
     }
-    if are_same(a, c) {
+    if name_same(a, c) {
         return true;
     }
-    are_same(b, c)
+    name_same(b, c)
 }
 
-fn are_same(a: &[u8], b: &[u8]) -> bool {
+// Whether two arguments give the same name.
+fn name_same(i: usize, j: usize) -> bool {
+    let mut first = io::buffer();
+    let n = os::arg(i, &mut first);
+    let mut second = io::buffer();
+    let m = os::arg(j, &mut second);
+    are_same(&first[..n], &second[..m])
+}
+
+// Whether two parts hold the same bytes.
+pub fn are_same(a: &[u8], b: &[u8]) -> bool {
     if a.len() != b.len() {
         return false;
     }

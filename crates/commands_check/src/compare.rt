@@ -1,18 +1,19 @@
 // Files compared.
-use console::Got;
-use console::read_file;
+use commands::are_same;
 use console::say;
+use memories::Count;
+use memories::read_front;
 ghost use Rattle.io.specs.Counts.{Counts};
 
 // Room for the longest file that is compared.
-const ROOM: usize = 65_536;
+const ROOM: usize = 262_144;
 
-// Says whether two files can be read and hold the same bytes.
-pub fn compare_files(a: &[u8], b: &[u8]) {
+// Says whether the files that two arguments name can be read and hold the same bytes.
+pub fn compare_files(i: usize, j: usize) {
     let mut first = [0u8; ROOM];
     let mut second = [0u8; ROOM];
-    let n = length_of(a, &mut first);
-    let m = length_of(b, &mut second);
+    let n = length_of(i, &mut first);
+    let m = length_of(j, &mut second);
     if are_same(&first[..n], &second[..m]) {
         say(b"same\n");
     } else {
@@ -20,26 +21,12 @@ pub fn compare_files(a: &[u8], b: &[u8]) {
     }
 }
 
-// Reads a file into the front of a buffer and returns its length; 0 of one that is too long or can't be read.
-fn length_of(path: &[u8], buffer: &mut [u8]) -> usize
+// Reads a file into the front of a buffer and returns its length; 0 of one that can't be read.
+fn length_of(i: usize, buffer: &mut [u8]) -> usize
     ensures { λ r. ⌜ Counts r (now (buffer .exit)) ⌝ }
 {
-    let Got::Bytes(n) = read_file(path, buffer) else {
+    let Count::Of(n) = read_front(i, buffer) else {
         return 0;
     };
     n
-}
-
-fn are_same(a: &[u8], b: &[u8]) -> bool {
-    if a.len() != b.len() {
-        return false;
-    }
-    let mut i = 0;
-    while i < a.len() {
-        if a[i] != b[i] {
-            return false;
-        }
-        i += 1;
-    }
-    true
 }

@@ -1,70 +1,79 @@
-// The commands `asm` and `list`, tried by running, with what they write. The arguments are steps of four words:
-//     asm PROGRAM IMEM DMEM     the command asm;
-//     list IMEM - -             the command list;
-//     same A B -                says whether two files hold the same bytes;
-//     refusals - - -            the lines of the refusals 0 to 17 at place 7, and of 12 and 16 at place 0.
-// Before each step it prints the step's words. mulmat.imem and mulmat.dmem are what tests/reference writes for mulmat.asm.
+// The commands, tried by running, with what they write. The arguments are steps: a word and what it takes.
+//     asm PROGRAM IMEM DMEM        the command asm;
+//     list IMEM                    the command list;
+//     sim IMEMIN .. MONITOR CYCLES the command sim, of fourteen names and a number of cycles;
+//     resume IMEM .. LOG           the command resume, of eight;
+//     show RECORD                  the command show;
+//     picture MONITOR PGM          the command picture;
+//     equal A B                    says whether two files hold the same bytes;
+//     numbers                      the lines of the refusals 0 to 17 at place 7, and of 12 and 16 at place 0.
+// Before each step it prints the step's words. Where data/ has files that are expected, its README.md says where they come from.
 mod compare;
+mod steps;
 
 use crate::compare::compare_files;
+use crate::steps::key_of;
+use crate::steps::say_step;
+use crate::steps::words_of;
 use commands::assemble_file;
+use commands::draw_frame;
 use commands::list_file;
-use console::LINE;
-use console::append;
-use console::say;
+use commands::show_record;
+use console::hold_standard;
 use console::say_refusal;
+use memories::Count;
+use memories::read_budget;
+use simulation::resume;
+use simulation::simulate;
 ghost use Prim.Native.Nat.{_+_, _^_, _<_};
 
+// More arguments than the steps have.
+const MOST: usize = 65_536;
+
 fn main() {
+    hold_standard();
     let count = os::arg_count();
+    if MOST < count {
+        return;
+    }
     let mut left = count;
     let mut i = 1;
-    while 4 < left {
-        run_step(i);
-        left -= 4;
-        i += 4;
+    while 1 < left {
+        let key = key_of(i);
+        let words = words_of(key);
+        if left <= words {
+            return;
+        }
+        say_step(i, words);
+        run_step(key, i);
+        left -= words;
+        i += words;
     }
 }
 
-// Runs the step whose words start at an argument.
-fn run_step(i: usize)
-    requires { ⌜ i + 4 < 2 ^ 64 ⌝ }
+// Runs the step at an argument, by its key.
+fn run_step(key: u8, i: usize)
+    requires { ⌜ i + 16 < 2 ^ 64 ⌝ }
 {
-    let mut step = io::buffer();
-    let s = os::arg(i, &mut step);
-    let mut first = io::buffer();
-    let f = os::arg(i + 1, &mut first);
-    let mut second = io::buffer();
-    let g = os::arg(i + 2, &mut second);
-    let mut third = io::buffer();
-    let t = os::arg(i + 3, &mut third);
-    say_step(&step[..s], &first[..f], &second[..g], &third[..t]);
-    run_words(step[0], &first[..f], &second[..g], &third[..t]);
-}
-
-// Runs a step by its first letter.
-fn run_words(letter: u8, first: &[u8], second: &[u8], third: &[u8]) {
-    match letter {
-        b'a' => assemble_file(first, second, third),
-        b'l' => list_file(first),
-        b'r' => say_refusals(),
-        _ => compare_files(first, second),
+    match key {
+        b'a' => assemble_file(i + 1),
+        b'l' => list_file(i + 1),
+        b'i' => simulate_step(i),
+        b'r' => resume(i + 1),
+        b'h' => show_record(i + 1),
+        b'p' => draw_frame(i + 1, i + 2),
+        b'e' => compare_files(i + 1, i + 2),
+        _ => say_refusals(),
     }
 }
 
-// Prints the words of a step.
-fn say_step(step: &[u8], first: &[u8], second: &[u8], third: &[u8]) {
-    let mut line = [0u8; LINE];
-    let mut at = append(&mut line, 0, b"> ");
-    at = append(&mut line, at, step);
-    at = append(&mut line, at, b" ");
-    at = append(&mut line, at, first);
-    at = append(&mut line, at, b" ");
-    at = append(&mut line, at, second);
-    at = append(&mut line, at, b" ");
-    at = append(&mut line, at, third);
-    at = append(&mut line, at, b"\n");
-    say(&line[..at]);
+// Runs a step of the command sim.
+fn simulate_step(i: usize)
+    requires { ⌜ i + 16 < 2 ^ 64 ⌝ }
+{
+    if let Count::Of(budget) = read_budget(i + 15) {
+        simulate(i + 1, budget as u64);
+    }
 }
 
 // Says each refusal.

@@ -13,7 +13,7 @@ unfoldable pub sentences : List (List ℕ)
 sentences =
     []
     -- "are the lent lengths those above (source up to 262,144 bytes ..)? 1"
-    ∷ bytes "the length is wrong (a program has at most 262144 bytes)"
+    ∷ bytes "the length is wrong (a program has at most 262144 bytes, a saved record has 91)"
     -- "at most 500 bytes before the LF or the end, all blanks or 33 to 126? 2"
     ∷ bytes "the line has more than 500 bytes, or one that is neither a blank nor a visible ASCII character"
     -- "The line's form? 3"

@@ -2,17 +2,27 @@
 use crate::output::append;
 use crate::output::append_number;
 use crate::output::say;
-ghost use Rattle.io.specs.Counts.{Counts};
+ghost use Prim.Native.Nat.{_+_, _^_, _<_};
 
-// Puts the name that an argument holds at the front of the buffer and returns its length; of one that is no name of a file, says so and returns 0.
-pub fn file_name(i: usize, name: &mut [u8]) -> usize
-    ensures { λ r. ⌜ Counts r (now (name .exit)) ⌝ }
+// Whether the arguments from `first` on, so many, can all be names of files; says of the first that can't.
+pub fn are_names(first: usize, count: usize) -> bool
+    requires { ⌜ first + count < 2 ^ 64 ⌝ }
 {
-    let n = os::arg(i, name);
-    if n == 0 {
-        say_no_name(i);
+    let mut i = 0;
+    while i < count {
+        if !is_name(first + i) {
+            say_no_name(first + i);
+            return false;
+        }
+        i += 1;
     }
-    n
+    true
+}
+
+// Whether an argument has bytes, and not too many.
+fn is_name(i: usize) -> bool {
+    let mut name = io::buffer();
+    0 < os::arg(i, &mut name)
 }
 
 // Says that an argument is empty or too long.

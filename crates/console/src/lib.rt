@@ -12,8 +12,9 @@ mod sentences;
 mod standard;
 mod write;
 
-pub use arguments::file_name;
+pub use arguments::are_names;
 pub use more::begin_more;
+pub use more::is_missing;
 pub use output::LINE;
 pub use output::append;
 pub use output::append_number;
@@ -23,6 +24,7 @@ pub use output::tell;
 pub use read::read_file;
 pub use refusal::say_refusal;
 pub use standard::hold_standard;
+pub use write::abandon_file;
 pub use write::begin_file;
 pub use write::drop_file;
 pub use write::end_file;

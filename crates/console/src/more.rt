@@ -2,13 +2,23 @@
 use crate::Writing;
 use crate::old::Old;
 use crate::old::old_file;
+use crate::write::abandon_file;
 use crate::write::begin_new;
 use crate::write::begin_through;
-use crate::write::end_file;
 use crate::write::not_written;
 
 // The most reads of a file that is copied.
 const MOST_READS: u64 = 0xFFFF_FFFF_FFFF_FFFF;
+
+// Whether there is nothing at a path.
+pub fn is_missing(path: &[u8]) -> bool {
+    let fd = os::open_read(path);
+    if fd < 0 {
+        return os::errno() == libc::ENOENT;
+    }
+    libc::close(fd);
+    false
+}
 
 // Begins a file that has what the old one has, where there is one, and is open to have more; or says that it is not written.
 pub fn begin_more(path: &[u8]) -> Writing {
@@ -28,7 +38,9 @@ fn begin_copy(path: &[u8]) -> Writing {
     if copy_old(path, w.fd) {
         return w;
     }
-    end_file(path, w, false)
+    let failed = not_written(path, path);
+    abandon_file(path, w);
+    failed
 }
 
 // Copies a file to an open one and answers whether all of it is there; of a missing file that is nothing.

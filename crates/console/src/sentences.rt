@@ -28,7 +28,7 @@ fn put_line_sentence(out: &mut [u8], at: usize, number: u32) -> usize
         1 => put_bytes(
             out,
             at,
-            b"the length is wrong (a program has at most 262144 bytes)",
+            b"the length is wrong (a program has at most 262144 bytes, a saved record has 91)",
         ),
         2 => put_bytes(
             out,

@@ -12,14 +12,18 @@ pub fn write_file(path: &[u8], bytes: &[u8]) -> bool {
     keep_file(path, w)
 }
 
-// Writes all of a file, which `keep_file` puts into its place, or `drop_file` removes.
+// Writes all of a file, which `keep_file` puts into its place, or `drop_file` removes; or says that it is not written.
 pub fn stage_file(path: &[u8], bytes: &[u8]) -> Writing {
     let w = begin_file(path);
     if w.fd < 0 {
         return w;
     }
-    let is_whole = io::write_all(w.fd, bytes);
-    end_file(path, w, is_whole)
+    if io::write_all(w.fd, bytes) {
+        return end_file(path, w);
+    }
+    let failed = not_written(path, path);
+    abandon_file(path, w);
+    failed
 }
 
 // Begins a file, which is open then; or says that it is not written.
@@ -69,20 +73,23 @@ fn create_anew(path: &[u8]) -> i32 {
     fd
 }
 
-// Closes a file. One that is not whole, or can't be closed, is removed if it is new, and it is said that it is not written.
-pub fn end_file(path: &[u8], w: Writing, is_whole: bool) -> Writing {
-    if !is_whole {
-        let failed = not_written(path, path);
-        libc::close(w.fd);
-        drop_file(path, w);
-        return failed;
-    }
+// Closes a file. Where that fails, removes it if it is new, and says that it is not written.
+pub fn end_file(path: &[u8], w: Writing) -> Writing {
     if libc::close(w.fd) < 0 {
         let failed = not_written(path, path);
         drop_file(path, w);
         return failed;
     }
     w
+}
+
+// Closes a file that is not whole, and removes it if it is new. One that was not begun is left alone.
+pub fn abandon_file(path: &[u8], w: Writing) {
+    if w.fd < 0 {
+        return;
+    }
+    libc::close(w.fd);
+    drop_file(path, w);
 }
 
 // Puts a new file that is closed into the place of the old one, and answers whether the file is there then.

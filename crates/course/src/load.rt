@@ -8,7 +8,7 @@ use files::read_irq2;
 use pieces::Told;
 use pieces::cycles_told;
 use pieces::file_told;
-ghost use Rattle.course.specs.Cycles.{AreCycles};
+ghost use Rattle.pieces.specs.Cycles.{AreCycles};
 
 // 4,096 lines of 12 digits, 4,096 and 16,384 lines of 8 digits, 4,096 lines of 13 digits; and one byte more.
 const IMAGE_FRONT: usize = 53_249;

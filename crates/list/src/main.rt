@@ -2,7 +2,7 @@
 use commands::list_file;
 use console::LINE;
 use console::append;
-use console::file_name;
+use console::are_names;
 use console::hold_standard;
 use console::say;
 
@@ -12,12 +12,9 @@ fn main() {
         print_help();
         return;
     }
-    let mut imem = io::buffer();
-    let n = file_name(1, &mut imem);
-    if n == 0 {
-        return;
+    if are_names(1, 1) {
+        list_file(1);
     }
-    list_file(&imem[..n]);
 }
 
 // Prints what the program does. The text is put together first, so that it is written at once.

@@ -4,4 +4,5 @@ pub mod Cycles
 pub mod Statuses
 pub mod Reasons
 pub mod RecordText
+pub mod Picture
 pub mod Examples

@@ -5,6 +5,7 @@ mod cycles;
 mod log;
 mod numbers;
 mod pc;
+mod picture;
 mod reason;
 mod record;
 mod register_lines;
@@ -13,6 +14,7 @@ mod status;
 
 pub use cycles::put_cycles;
 pub use log::take_lines;
+pub use picture::put_picture;
 pub use reason::put_reason;
 pub use record::put_record;
 pub use registers::put_registers;

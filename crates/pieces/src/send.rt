@@ -4,8 +4,19 @@ use outputs::take_lines;
 ghost use Prim.Native.Nat.{_≤_};
 ghost use lib.ListN.{length};
 
-// Writes a piece of a log and answers whether all of it is written. The lent part is what it works with.
+// Writes a piece of a log and answers whether all of it is written; standard error tells why not. The lent part is what it works with.
 pub fn send(log: &[u8], to: Sink, part: &mut [u8]) -> bool
+    requires { ⌜ length (now log) ≤ length (now part) ⌝ }
+{
+    if write_piece(log, to, part) {
+        return true;
+    }
+    os::fail(b"the log");
+    false
+}
+
+// Writes a piece of a log to where the log goes.
+fn write_piece(log: &[u8], to: Sink, part: &mut [u8]) -> bool
     requires { ⌜ length (now log) ≤ length (now part) ⌝ }
 {
     match to {

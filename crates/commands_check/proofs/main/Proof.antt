@@ -1,21 +1,38 @@
 -- `commands_check::main` meets its contract.
-use Prim.Native.Nat.{_+_}
-use mathlib.Core.Path.{_≡_}
 use borrow.Author.Needs.{needs}
+use Prim.Native.Nat.{_+_, _≤_}
 use Rattle.commands_check.proofs.main.Statement.{statement}
 use Rattle.commands_check.proofs.main.Tie as tie
 
 abbrev Inv-loop : tie.InvT-loop
-Inv-loop count left₀ i₀ left i = i + left ≡ count + 1
+Inv-loop count left₀ i₀ left i = (i + left ≤ 65537) × (1 ≤ i)
 
 abbrev μ-loop : tie.MeasureT-loop
 μ-loop count left₀ i₀ left i = left
 
+hold-standard-requires : tie.Need-hold-standard-requires Inv-loop μ-loop
+hold-standard-requires c κs = search needs
+
 arg-count-requires : tie.Need-arg-count-requires Inv-loop μ-loop
 arg-count-requires c κs = search needs
 
+returns : tie.Need-returns Inv-loop μ-loop
+returns c = search needs
+
 loop-holds : tie.Need-loop-holds Inv-loop μ-loop
 loop-holds c = search needs
+
+key-of-requires : tie.Need-key-of-requires Inv-loop μ-loop
+key-of-requires c κs = search needs
+
+words-of-requires : tie.Need-words-of-requires Inv-loop μ-loop
+words-of-requires c κs = search needs
+
+returns-2 : tie.Need-returns-2 Inv-loop μ-loop
+returns-2 c = search needs
+
+say-step-requires : tie.Need-say-step-requires Inv-loop μ-loop
+say-step-requires c κs = search needs
 
 run-step-requires : tie.Need-run-step-requires Inv-loop μ-loop
 run-step-requires c κs = search needs
@@ -32,8 +49,8 @@ loop-less c = search needs
 loop-again : tie.Need-loop-again Inv-loop μ-loop
 loop-again c = search needs
 
-returns : tie.Need-returns Inv-loop μ-loop
-returns c = search needs
+returns-3 : tie.Need-returns-3 Inv-loop μ-loop
+returns-3 c = search needs
 
 pub main-spec : {M : Type 1} → statement M
 main-spec =
@@ -41,11 +58,17 @@ main-spec =
     (tie.spec
     Inv-loop
     μ-loop
+    hold-standard-requires
     arg-count-requires
+    returns
     loop-holds
+    key-of-requires
+    words-of-requires
+    returns-2
+    say-step-requires
     run-step-requires
     sub-left
     add-i
     loop-less
     loop-again
-    returns)
+    returns-3)

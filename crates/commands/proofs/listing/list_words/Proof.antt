@@ -35,20 +35,20 @@ say-requires c κs = search needs
 enum-told : tie.Need-enum-told
 enum-told c = search needs
 
-say-refusal-requires : tie.Need-say-refusal-requires
-say-refusal-requires c κs = search needs
+refuse-at-requires : tie.Need-refuse-at-requires
+refuse-at-requires c κs = search needs
 
 enum-known-word : tie.Need-enum-known-word
 enum-known-word c = search needs
 
-say-refusal-requires-2 : tie.Need-say-refusal-requires-2
-say-refusal-requires-2 c κs = search needs
+refuse-at-requires-2 : tie.Need-refuse-at-requires-2
+refuse-at-requires-2 c κs = search needs
 
 enum-told-2 : tie.Need-enum-told-2
 enum-told-2 c = search needs
 
-say-refusal-requires-3 : tie.Need-say-refusal-requires-3
-say-refusal-requires-3 c κs = search needs
+refuse-at-requires-3 : tie.Need-refuse-at-requires-3
+refuse-at-requires-3 c κs = search needs
 
 returns : tie.Need-returns
 returns c = search needs
@@ -73,11 +73,11 @@ list-words-spec =
     slice-aggregate-say
     say-requires
     enum-told
-    say-refusal-requires
+    refuse-at-requires
     enum-known-word
-    say-refusal-requires-2
+    refuse-at-requires-2
     enum-told-2
-    say-refusal-requires-3
+    refuse-at-requires-3
     returns
     returns-2
     returns-3

@@ -1,6 +1,6 @@
 -- `course::load::load_irq2` meets its contract.
 use borrow.Author.Needs.{needs}
-use Rattle.course.proofs.CycleLaws.{are-cycles}
+use Rattle.pieces.proofs.CycleLaws.{are-cycles}
 use Rattle.course.proofs.load.load_irq2.Statement.{statement}
 use Rattle.course.proofs.load.load_irq2.Tie as tie
 

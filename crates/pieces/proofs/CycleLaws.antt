@@ -16,9 +16,9 @@ use Rattle.files.specs.Irq2File.{isCycle, isAbove, cycleQuestions, irq2Told, fi
 use Rattle.files.specs.Answers.{cyclesReadTold}
 use Rattle.files.specs.Promises.{Irq2Read}
 use Rattle.files.proofs.Irq2Laws.{irq2-rising}
 use Rattle.pieces.specs.declared.Told.{Told as Held}
 use Rattle.pieces.specs.Answers.{toldOf}
-use Rattle.course.specs.Cycles.{AreCycles}
+use Rattle.pieces.specs.Cycles.{AreCycles}
 
 module _ (room n : ℕ) (all : List (List ℕ)) where
   -- The lines of a good file, each with a place left for it, ..

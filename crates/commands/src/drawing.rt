@@ -1,0 +1,22 @@
+// The command `picture`: a frame as a picture.
+use memories::keep_at;
+use memories::load_frame;
+use memories::say_at;
+use memories::stage_bytes;
+use outputs::put_picture;
+
+// Room for a picture: its head and 65,536 pixels.
+const ROOM: usize = 65_551;
+
+// Writes the frame that one argument names as a picture that another names.
+pub fn draw_frame(monitor: usize, picture: usize) {
+    let mut frame = [0u8; 65536];
+    if !load_frame(monitor, &mut frame) {
+        return;
+    }
+    let mut text = [0u8; ROOM];
+    let n = put_picture(&frame, &mut text);
+    if keep_at(picture, stage_bytes(picture, &text[..n])) {
+        say_at(picture, b" is written: 256 by 256 pixels\n");
+    }
+}

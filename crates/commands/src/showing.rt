@@ -1,0 +1,19 @@
+// The command `show`: a saved record by its fields.
+use console::say;
+use memories::load_record;
+use outputs::put_record;
+
+// Room for the text of a record.
+const ROOM: usize = 768;
+
+// Prints the saved record that an argument names.
+pub fn show_record(i: usize) {
+    let read = load_record(i);
+    if !read.is_read {
+        return;
+    }
+    let state = read.state;
+    let mut text = [0u8; ROOM];
+    let n = put_record(state, &mut text);
+    say(&text[..n]);
+}

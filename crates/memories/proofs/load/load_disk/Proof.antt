@@ -1,0 +1,57 @@
+-- `memories::load::load_disk` meets its contract.
+use borrow.Author.Needs.{needs}
+use Rattle.memories.proofs.load.load_disk.Statement.{statement}
+use Rattle.memories.proofs.load.load_disk.Tie as tie
+
+slice-aggregate-read-front : tie.Need-slice-aggregate-read-front
+slice-aggregate-read-front c = search needs
+
+read-front-requires : tie.Need-read-front-requires
+read-front-requires c κs = search needs
+
+enum-known-n : tie.Need-enum-known-n
+enum-known-n c = search needs
+
+array-share-prefix-text : tie.Need-array-share-prefix-text
+array-share-prefix-text c = let got = rw (c .before .n .given .1) at (c .before .before .before .before .read-front .ensures) in got .0
+
+slice-aggregate-read-disk : tie.Need-slice-aggregate-read-disk
+slice-aggregate-read-disk c = let got = rw (c .before .before .n .given .1) at (c .before .before .before .before .before .read-front .ensures) in got .1
+
+read-disk-requires : tie.Need-read-disk-requires
+read-disk-requires c κs = search needs
+
+file-told-requires : tie.Need-file-told-requires
+file-told-requires c κs = search needs
+
+is-accepted-requires : tie.Need-is-accepted-requires
+is-accepted-requires c κs = search needs
+
+same-length : tie.Need-same-length
+same-length c = search needs
+
+returns : tie.Need-returns
+returns c = search needs
+
+enum-told : tie.Need-enum-told
+enum-told c = search needs
+
+returns-2 : tie.Need-returns-2
+returns-2 c = search needs
+
+pub load-disk-spec : {M : Type 1} → statement M
+load-disk-spec =
+    tie.close
+    (tie.spec
+    slice-aggregate-read-front
+    read-front-requires
+    enum-known-n
+    array-share-prefix-text
+    slice-aggregate-read-disk
+    read-disk-requires
+    file-told-requires
+    is-accepted-requires
+    same-length
+    returns
+    enum-told
+    returns-2)

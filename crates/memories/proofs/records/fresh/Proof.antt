@@ -1,0 +1,14 @@
+-- `memories::records::fresh` meets its contract.
+use Rattle.pieces.proofs.PieceLaws.{fresh-sound}
+use borrow.Author.Needs.{needs}
+use Rattle.memories.proofs.records.fresh.Statement.{statement}
+use Rattle.memories.proofs.records.fresh.Tie as tie
+
+fresh-record-requires : tie.Need-fresh-record-requires
+fresh-record-requires c κs = search needs
+
+returns : tie.Need-returns
+returns c = fresh-sound _ (c .fresh-record .ensures)
+
+pub fresh-spec : {M : Type 1} → statement M
+fresh-spec = tie.close (tie.spec fresh-record-requires returns)

@@ -1,0 +1,49 @@
+-- `memories::records::load_record` meets its contract.
+use borrow.Author.Needs.{needs}
+use Rattle.memories.proofs.records.load_record.Statement.{statement}
+use Rattle.memories.proofs.records.load_record.Tie as tie
+
+slice-aggregate-read-front : tie.Need-slice-aggregate-read-front
+slice-aggregate-read-front c = search needs
+
+read-front-requires : tie.Need-read-front-requires
+read-front-requires c κs = search needs
+
+enum-known-n : tie.Need-enum-known-n
+enum-known-n c = search needs
+
+array-share-prefix-bytes : tie.Need-array-share-prefix-bytes
+array-share-prefix-bytes c = let got = rw (c .before .n .given .1) at (c .before .before .before .before .read-front .ensures) in got .0
+
+slice-aggregate-record-of : tie.Need-slice-aggregate-record-of
+slice-aggregate-record-of c = let got = rw (c .before .before .n .given .1) at (c .before .before .before .before .before .read-front .ensures) in got .1
+
+record-of-requires : tie.Need-record-of-requires
+record-of-requires c κs = search needs
+
+returns : tie.Need-returns
+returns c = search needs
+
+enum-told : tie.Need-enum-told
+enum-told c = search needs
+
+fresh-requires : tie.Need-fresh-requires
+fresh-requires c κs = search needs
+
+returns-2 : tie.Need-returns-2
+returns-2 c = search needs
+
+pub load-record-spec : {M : Type 1} → statement M
+load-record-spec =
+    tie.close
+    (tie.spec
+    slice-aggregate-read-front
+    read-front-requires
+    enum-known-n
+    array-share-prefix-bytes
+    slice-aggregate-record-of
+    record-of-requires
+    returns
+    enum-told
+    fresh-requires
+    returns-2)

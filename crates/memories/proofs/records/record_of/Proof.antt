@@ -1,0 +1,34 @@
+-- `memories::records::record_of` meets its contract.
+use Rattle.memories.proofs.RecordLaws.{loaded-sound}
+use borrow.Author.Needs.{needs}
+use Rattle.memories.proofs.records.record_of.Statement.{statement}
+use Rattle.memories.proofs.records.record_of.Tie as tie
+
+load-requires : tie.Need-load-requires
+load-requires c κs = search needs
+
+number-of-requires : tie.Need-number-of-requires
+number-of-requires c κs = search needs
+
+refuse-at-requires : tie.Need-refuse-at-requires
+refuse-at-requires c κs = search needs
+
+fresh-requires : tie.Need-fresh-requires
+fresh-requires c κs = search needs
+
+returns : tie.Need-returns
+returns c = search needs
+
+returns-2 : tie.Need-returns-2
+returns-2 c = loaded-sound _ (c .before .before .before .before .before .args .bytes .now) (c .before .before .before .load .ensures .1)
+
+pub record-of-spec : {M : Type 1} → statement M
+record-of-spec =
+    tie.close
+    (tie.spec
+    load-requires
+    number-of-requires
+    refuse-at-requires
+    fresh-requires
+    returns
+    returns-2)

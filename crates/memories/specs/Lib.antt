@@ -1,0 +1,3 @@
+-- What reading promises.
+pub mod Front
+pub mod Cycles

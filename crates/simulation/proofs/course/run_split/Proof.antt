@@ -1,0 +1,46 @@
+-- `simulation::course::run_split` meets its contract.
+use Rattle.pieces.proofs.PieceLaws.{fresh-sound}
+use borrow.Author.Needs.{needs}
+use Rattle.simulation.proofs.course.run_split.Statement.{statement}
+use Rattle.simulation.proofs.course.run_split.Tie as tie
+
+fresh-record-requires : tie.Need-fresh-record-requires
+fresh-record-requires c κs = search needs
+
+run-on-requires : tie.Need-run-on-requires
+run-on-requires c κs = (fresh-sound _ (c .before .before .before .before .fresh-record .ensures), c .before .before .before .before .before .before .pre .1)
+
+abandon-logs-requires : tie.Need-abandon-logs-requires
+abandon-logs-requires c κs = search needs
+
+say-unwritten-requires : tie.Need-say-unwritten-requires
+say-unwritten-requires c κs = search needs
+
+returns : tie.Need-returns
+returns c = search needs
+
+keep-logs-requires : tie.Need-keep-logs-requires
+keep-logs-requires c κs = search needs
+
+write-ends-requires : tie.Need-write-ends-requires
+write-ends-requires c κs = search needs
+
+say-outcome-requires : tie.Need-say-outcome-requires
+say-outcome-requires c κs = search needs
+
+returns-2 : tie.Need-returns-2
+returns-2 c = search needs
+
+pub run-split-spec : {M : Type 1} → statement M
+run-split-spec =
+    tie.close
+    (tie.spec
+    fresh-record-requires
+    run-on-requires
+    abandon-logs-requires
+    say-unwritten-requires
+    returns
+    keep-logs-requires
+    write-ends-requires
+    say-outcome-requires
+    returns-2)

@@ -1,0 +1,57 @@
+// The files that the lines of a log go to: the 7th, 8th, 10th and 11th of the fourteen.
+use crate::LogFiles;
+use memories::abandon_at;
+use memories::begin_at;
+use memories::end_at;
+use memories::keep_at;
+ghost use Prim.Native.Nat.{_+_, _^_, _<_};
+
+// Begins them.
+pub fn begin_logs(first: usize) -> LogFiles
+    requires { ⌜ first + 14 < 2 ^ 64 ⌝ }
+{
+    let trace = begin_at(first + 6);
+    let hwregtrace = begin_at(first + 7);
+    let leds = begin_at(first + 9);
+    let display7seg = begin_at(first + 10);
+    LogFiles {
+        trace: trace,
+        hwregtrace: hwregtrace,
+        leds: leds,
+        display7seg: display7seg,
+    }
+}
+
+// Whether all are open.
+pub fn are_open(logs: LogFiles) -> bool {
+    if logs.trace.fd < 0 {
+        return false;
+    }
+    if logs.hwregtrace.fd < 0 {
+        return false;
+    }
+    if logs.leds.fd < 0 {
+        return false;
+    }
+    0 <= logs.display7seg.fd
+}
+
+// Closes and removes them; the old ones stay.
+pub fn abandon_logs(first: usize, logs: LogFiles)
+    requires { ⌜ first + 14 < 2 ^ 64 ⌝ }
+{
+    abandon_at(first + 6, logs.trace);
+    abandon_at(first + 7, logs.hwregtrace);
+    abandon_at(first + 9, logs.leds);
+    abandon_at(first + 10, logs.display7seg);
+}
+
+// Closes them and puts them into their places.
+pub fn keep_logs(first: usize, logs: LogFiles)
+    requires { ⌜ first + 14 < 2 ^ 64 ⌝ }
+{
+    keep_at(first + 6, end_at(first + 6, logs.trace));
+    keep_at(first + 7, end_at(first + 7, logs.hwregtrace));
+    keep_at(first + 9, end_at(first + 9, logs.leds));
+    keep_at(first + 10, end_at(first + 10, logs.display7seg));
+}

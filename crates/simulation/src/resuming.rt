@@ -1,0 +1,113 @@
+// The command `resume`: a run that goes on where another stopped.
+use crate::outcome::say_outcome;
+use crate::outcome::say_unwritten;
+use crate::start::start_frame;
+use crate::start::start_record;
+use crate::writing_back::write_back;
+use machine::Record;
+use memories::Count;
+use memories::abandon_at;
+use memories::end_at;
+use memories::is_missing_at;
+use memories::load_data;
+use memories::load_disk;
+use memories::load_image;
+use memories::load_irq2;
+use memories::more_at;
+use memories::read_budget;
+use pieces::Sink;
+use pieces::run_on;
+ghost use mathlib.Core.Path.{_≡_};
+ghost use mathlib.Core.Bool.{true};
+ghost use Prim.Native.Nat.{_+_, _^_, _<_};
+ghost use Rattle.files.specs.Irq2File.{rising};
+ghost use Rattle.machine.specs.Soundness.{Sound};
+
+// Reads the instruction file, the file of data, the disk, the frame, the saved record, the irq2 file and the budget that the arguments from `first`
+// on name or give, runs on, and writes the memories and the record back. The log goes to the end of the file that the last argument names.
+pub fn resume(first: usize)
+    requires { ⌜ first + 8 < 2 ^ 64 ⌝ }
+{
+    if let Count::Of(budget) = read_budget(first + 6) {
+        let mut image = [0u64; 4096];
+        let mut cycles = [0u64; 16384];
+        if !load_image(first, &mut image) {
+            return;
+        }
+        if let Count::Of(n) = load_irq2(first + 5, &mut cycles) {
+            resume_image(first, &image, &cycles[..n], budget as u64);
+        }
+    }
+}
+
+// The same with the image and the irq2 list.
+fn resume_image(first: usize, image: &[u64; 4096], irq2: &[u64], budget: u64)
+    requires { ⌜ (first + 8 < 2 ^ 64) × (rising (now irq2) ≡ true) ⌝ }
+{
+    let mut memory = [0u32; 4096];
+    let mut disk = [0u32; 16384];
+    let mut frame = [0u8; 65536];
+    if !load_data(first + 1, &mut memory) {
+        return;
+    }
+    if !load_disk(first + 2, &mut disk) {
+        return;
+    }
+    let is_fresh = is_missing_at(first + 4);
+    if !start_frame(first + 3, is_fresh, &mut frame) {
+        return;
+    }
+    let start = start_record(first + 4, is_fresh);
+    if !start.is_read {
+        return;
+    }
+    let state = start.state;
+    run_more(
+        first,
+        state,
+        image,
+        &mut memory,
+        &mut disk,
+        &mut frame,
+        irq2,
+        budget,
+    );
+}
+
+// Runs on, its log going to the end of a file.
+fn run_more(
+    first: usize,
+    state: Record,
+    image: &[u64; 4096],
+    memory: &mut [u32; 4096],
+    disk: &mut [u32; 16384],
+    frame: &mut [u8; 65536],
+    irq2: &[u64],
+    budget: u64,
+)
+    requires { ⌜ (first + 8 < 2 ^ 64) × (rising (now irq2) ≡ true) × Sound (state .core) (state .regs) (state .io) ⌝ }
+{
+    let log = more_at(first + 7);
+    if log.fd < 0 {
+        return;
+    }
+    let end = run_on(
+        state,
+        image,
+        memory,
+        disk,
+        frame,
+        irq2,
+        budget,
+        Sink::Whole(log.fd),
+    );
+    if !end.written {
+        abandon_at(first + 7, log);
+        say_unwritten();
+        return;
+    }
+    let then = end.state;
+    if write_back(first, end_at(first + 7, log), then, memory, disk, frame) {
+        say_outcome(then.core);
+    }
+}

@@ -1,0 +1,29 @@
+// What a resumed run starts from.
+use console::say;
+use memories::RecordRead;
+use memories::fresh;
+use memories::is_missing_at;
+use memories::load_frame;
+use memories::load_record;
+ghost use Rattle.machine.specs.Soundness.{Sound};
+
+// The record that an argument names; the fresh one where there is none, as is said.
+pub fn start_record(i: usize, is_fresh: bool) -> RecordRead
+    ensures { λ r. ⌜ Sound (r .state .core) (r .state .regs) (r .state .io) ⌝ }
+{
+    if is_fresh {
+        say(b"no saved record: the run starts with the fresh one\n");
+        return fresh(true);
+    }
+    load_record(i)
+}
+
+// Reads the frame that an argument names into one that is black, and answers whether it is accepted. A fresh run may have none.
+pub fn start_frame(i: usize, is_fresh: bool, frame: &mut [u8]) -> bool {
+    if is_fresh {
+        if is_missing_at(i) {
+            return true;
+        }
+    }
+    load_frame(i, frame)
+}

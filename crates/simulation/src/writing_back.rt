@@ -1,0 +1,74 @@
+// The memories, the record and the log of a resumed run, written back.
+use console::Writing;
+use console::say;
+use machine::Record;
+use memories::drop_at;
+use memories::keep_at;
+use memories::stage_data;
+use memories::stage_disk;
+use memories::stage_frame;
+use memories::stage_record;
+ghost use Prim.Native.Nat.{_+_, _^_, _<_};
+
+// Writes all of them, or none, and answers whether they are there then.
+pub fn write_back(
+    first: usize,
+    log: Writing,
+    state: Record,
+    memory: &[u32],
+    disk: &[u32],
+    frame: &[u8],
+) -> bool
+    requires { ⌜ first + 8 < 2 ^ 64 ⌝ }
+{
+    let d = stage_data(first + 1, memory);
+    let k = stage_disk(first + 2, disk);
+    let f = stage_frame(first + 3, frame);
+    let r = stage_record(first + 4, state);
+    if are_staged(log, d, k, f, r) {
+        return keep_all(first, log, d, k, f, r);
+    }
+    drop_at(first + 1, d);
+    drop_at(first + 2, k);
+    drop_at(first + 3, f);
+    drop_at(first + 4, r);
+    drop_at(first + 7, log);
+    say(b"nothing is written back\n");
+    false
+}
+
+// Whether five files are whole.
+fn are_staged(a: Writing, b: Writing, c: Writing, d: Writing, e: Writing) -> bool {
+    if a.fd < 0 {
+        return false;
+    }
+    if b.fd < 0 {
+        return false;
+    }
+    if c.fd < 0 {
+        return false;
+    }
+    if d.fd < 0 {
+        return false;
+    }
+    0 <= e.fd
+}
+
+// Puts the log, the memories and the record into their places, up to the first that can't be.
+fn keep_all(first: usize, log: Writing, d: Writing, k: Writing, f: Writing, r: Writing) -> bool
+    requires { ⌜ first + 8 < 2 ^ 64 ⌝ }
+{
+    if !keep_at(first + 7, log) {
+        return false;
+    }
+    if !keep_at(first + 1, d) {
+        return false;
+    }
+    if !keep_at(first + 2, k) {
+        return false;
+    }
+    if !keep_at(first + 3, f) {
+        return false;
+    }
+    keep_at(first + 4, r)
+}

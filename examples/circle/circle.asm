@@ -33,4 +33,4 @@ next:   add  $t1, $t1, $imm1, $zero, 1, 0          # dx = dx + 1
         ble  $zero, $t0, $s0, $imm1, line, 0       # if dy <= r goto line
         halt $zero, $zero, $zero, $zero, 0, 0      # the end
 
-        .word 0x100 5                              # the radius
+        .word 0x100 40                             # the radius

@@ -136,7 +136,7 @@ fn binom() {
 fn circle() {
     for radius in [5, 0, 1, 2, 13, 40] {
         let mut lab = example("circle");
-        assert_eq!(lab.data[0x100], 5);
+        assert_eq!(lab.data[0x100], 40);
         lab.data[0x100] = radius;
         let data = lab.data.clone();
         let radius = radius as i32;

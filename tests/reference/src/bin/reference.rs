@@ -7,13 +7,15 @@
 //! reference list IMAGE
 //!
 //! `run` prints the log and the E line (budget 100,000 where none is given); with `--memories` it
-//! then writes dmemout.txt, diskout.txt and monitor.txt into DIR. `asm --short` leaves out the
+//! then writes into DIR the ten files of the course paper's simulator (dmemout.txt regout.txt
+//! trace.txt hwregtrace.txt cycles.txt leds.txt display7seg.txt diskout.txt monitor.txt
+//! monitor.yuv), the saved record as record.bin and the log as log.txt. `asm --short` leaves out the
 //! zero lines at the end of its two files. `list` lists as many words as the file has lines.
 
 use reference::assembler::assemble;
 use reference::files::*;
 use reference::lister::list;
-use reference::record::Record;
+use reference::record::{save, Record};
 use reference::run::{run, LOG_FULL};
 use reference::simlog::{line_e, line_n, simlog, SIMLOG_BUDGET};
 use reference::text::lines;
@@ -126,6 +128,7 @@ fn command_run(arguments: &[String]) -> Result<(), End> {
     // Runs with a room of 1 MiB for the log, as many as are needed.
     let mut record = Record::fresh();
     let mut log = vec![0; 1 << 20];
+    let mut whole_log = Vec::new();
     loop {
         let answer = run(
             &record, &image, &mut data, &mut disk, &mut frame, &irq2, budget, &mut log,
@@ -134,6 +137,9 @@ fn command_run(arguments: &[String]) -> Result<(), End> {
             return Err(End::Refused(refusal));
         }
         print(&log[..answer.log_bytes])?;
+        if memories.is_some() {
+            whole_log.extend_from_slice(&log[..answer.log_bytes]);
+        }
         record = answer.record;
         budget -= answer.cycles;
         if answer.reason != LOG_FULL {
@@ -152,8 +158,45 @@ fn command_run(arguments: &[String]) -> Result<(), End> {
         store(&directory.join("diskout.txt"), &text)?;
         let text = text_from(FRAME_BYTES * 3, |text| write_frame(&frame, text))?;
         store(&directory.join("monitor.txt"), &text)?;
+        store(&directory.join("monitor.yuv"), &frame)?;
+        store_log(directory, &whole_log)?;
+        store_record(directory, &record)?;
     }
     Ok(())
+}
+
+/// The log, and "a line of text" of each kind in a file of its own, without the log's letter.
+fn store_log(directory: &Path, log: &[u8]) -> Result<(), End> {
+    store(&directory.join("log.txt"), log)?;
+    for (letter, file) in [
+        ("T ", "trace.txt"),
+        ("H ", "hwregtrace.txt"),
+        ("L ", "leds.txt"),
+        ("D ", "display7seg.txt"),
+    ] {
+        let text: String = String::from_utf8_lossy(log)
+            .lines()
+            .filter_map(|line| line.strip_prefix(letter))
+            .map(|line| format!("{line}\n"))
+            .collect();
+        store(&directory.join(file), text.as_bytes())?;
+    }
+    Ok(())
+}
+
+/// "the values of the registers R3-R15", "the number of clock cycles", and the saved record.
+fn store_record(directory: &Path, record: &Record) -> Result<(), End> {
+    let registers: String = record
+        .r
+        .iter()
+        .map(|value| format!("{value:08X}\n"))
+        .collect();
+    store(&directory.join("regout.txt"), registers.as_bytes())?;
+    let cycles = format!("{}\n", record.age);
+    store(&directory.join("cycles.txt"), cycles.as_bytes())?;
+    let mut bytes = vec![0; RECORD_BYTES];
+    save(record, &mut bytes)?;
+    store(&directory.join("record.bin"), &bytes)
 }
 
 fn command_asm(arguments: &[String]) -> Result<(), End> {

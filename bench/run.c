@@ -6,19 +6,17 @@
 //     bench/run            runs of 1,000,000, of 100,000 and of 10,000 cycles
 //     bench/run 50000      runs of so many; a short log stays in the cache
 //
-// Then what a run costs that is cut into logs of 64 KiB, and a run with an irq2 list of a million cycles.
+// Then the proved run beside a simulator that prints each field by its own fprintf (printed.c), what a run costs that is
+// cut into logs of 64 KiB, and a run with an irq2 list of a million cycles.
 //
 // The C simulator writes all sixteen registers in each T line and keeps no text from one line to the next.
-#include <stdbool.h>
-#include <stdint.h>
 #include <stdio.h>
 #include <stdlib.h>
-#include <string.h>
 #include <time.h>
 
-enum { IMAGE = 4096, MEMORY = 4096, DISK = 16384, FRAME = 65536, SECTOR = 128, MOST = 231, LONG_RUN = 1000000, RUNS = 15, PIECE = 65536, MANY = 1000000 };
+#include "machine.h"
 
-static const uint64_t LIMIT = 0xFFFFFFFFFF; // 2^40 - 1
+enum { LONG_RUN = 1000000, RUNS = 15, PIECE = 65536, MANY = 1000000, PRINTED_RUN = 100000, PRINTED_RUNS = 5 };
 
 // The proved ones, from the fresh record: one run, which returns the log's length; and runs with this budget in all, each
 // lent the log anew, which return the cycles made.
@@ -28,6 +26,12 @@ size_t simp_bench_run(const uint64_t *image, size_t image_length, uint32_t *memo
 uint64_t simp_bench_runs(const uint64_t *image, size_t image_length, uint32_t *memory, size_t memory_length, uint32_t *disk,
                          size_t disk_length, uint8_t *frame, size_t frame_length, const uint64_t *irq2, size_t irq2_length,
                          uint64_t budget, uint8_t *log, size_t log_length);
+
+// The simulator that prints, and its files of the lines T, H, L and D.
+size_t printed_run(const uint64_t *image, size_t image_length, uint32_t *memory, size_t memory_length, uint32_t *disk,
+                   size_t disk_length, uint8_t *frame, size_t frame_length, const uint64_t *irq2, size_t irq2_length,
+                   uint64_t n, uint8_t *log, size_t log_length);
+extern FILE *printed_files[4];
 
 // ---- text
 
@@ -118,11 +122,6 @@ static inline uint8_t *put_line_t(uint8_t *p, uint32_t pc, uint64_t word, const 
 
 // What stands in an H line between the cycle and the value, for in and for out, with its length in the last byte. All 24
 // bytes are copied; the value overwrites those that are too many.
-static const char io_names[23][16] = {
-    "irq0enable", "irq1enable", "irq2enable",   "irq0status", "irq1status", "irq2status", "irqhandler", "irqreturn",
-    "clks",       "leds",       "display7seg",  "timerenable", "timercurrent", "timermax", "diskcmd",   "disksector",
-    "diskbuffer", "diskstatus", "",             "",            "monitoraddr", "monitordata", "monitorcmd",
-};
 static uint8_t middles[2][23][24];
 
 static void fill_middles(void)
@@ -161,232 +160,9 @@ static inline uint8_t *put_line_ld(uint8_t *p, uint8_t letter, uint64_t c, uint3
     return p + 10;
 }
 
-// ---- the machine
-
-enum {
-    IRQ0ENABLE, IRQ1ENABLE, IRQ2ENABLE, IRQ0STATUS, IRQ1STATUS, IRQ2STATUS, IRQHANDLER, IRQRETURN, CLKS, LEDS,
-    DISPLAY7SEG, TIMERENABLE, TIMERCURRENT, TIMERMAX, DISKCMD, DISKSECTOR, DISKBUFFER, DISKSTATUS,
-    MONITORADDR = 20, MONITORDATA, MONITORCMD
-};
-
-// The bits that an out keeps.
-static const uint32_t masks[23] = {
-    1, 1, 1, 1, 1, 1, 0xFFF, 0xFFF, 0xFFFFFFFF, 0xFFFFFFFF, 0xFFFFFFFF, 1, 0xFFFFFFFF, 0xFFFFFFFF, 3, 0x7F, 0xFFF, 1,
-    0, 0, 0xFFFF, 0xFF, 1,
-};
-
-static inline bool is_listed(uint32_t a)
-{
-    return a < 18 || a - 20 < 3;
-}
-
-static inline uint32_t sign_extend(uint32_t imm)
-{
-    return (uint32_t)((int32_t)(imm << 20) >> 20);
-}
-
-enum {
-    ADD, SUB, MAC, AND, OR, XOR, SLL, SRA, SRL, BEQ, BNE, BLT, BGT, BLE, BGE, JAL, LW, SW, RETI, IN, OUT, HALT
-};
-
-static bool is_asked(const uint32_t *io)
-{
-    return (io[IRQ0ENABLE] & io[IRQ0STATUS]) | (io[IRQ1ENABLE] & io[IRQ1STATUS]) | (io[IRQ2ENABLE] & io[IRQ2STATUS]);
-}
-
-// How many bytes the next cycle logs, where the log has fewer left than a cycle may log.
-static size_t lines_length(const uint64_t *image, const uint32_t *registers, const uint32_t *io_before, uint32_t pc, bool handler, uint64_t age, bool hit)
-{
-    uint32_t r[16], io[23];
-    uint8_t lines[MOST + 32], *p = lines + 163;
-    memcpy(r, registers, sizeof r);
-    memcpy(io, io_before, sizeof io);
-    if (hit)
-        io[IRQ2STATUS] = 1;
-    if (!handler && is_asked(io)) {
-        io[IRQRETURN] = pc;
-        pc = io[IRQHANDLER];
-    }
-    uint64_t word = image[pc];
-    uint32_t op = word >> 40 & 0xFF;
-    r[1] = sign_extend((uint32_t)word >> 12 & 0xFFF);
-    r[2] = sign_extend((uint32_t)word & 0xFFF);
-    uint32_t a = r[word >> 32 & 15] + r[word >> 28 & 15], m = r[word >> 24 & 15];
-    if ((op == IN || op == OUT) && is_listed(a)) {
-        p = put_line_h(p, age, op == OUT, a, 0);
-        if (op == OUT && (a == LEDS || a == DISPLAY7SEG) && io[a] != m)
-            p = put_line_ld(p, 'L', age, m);
-    }
-    return (size_t)(p - lines);
-}
-
 // The same as the proved run. It may write up to 32 bytes beyond the log.
-__attribute__((noinline)) size_t c_run(const uint64_t *image, size_t image_length, uint32_t *memory, size_t memory_length,
-                                       uint32_t *disk, size_t disk_length, uint8_t *frame, size_t frame_length,
-                                       const uint64_t *irq2, size_t irq2_length, uint64_t n, uint8_t *log, size_t log_length)
-{
-    if (image_length != IMAGE || memory_length != MEMORY || disk_length != DISK || frame_length != FRAME)
-        return 0;
-    for (size_t i = 1; i < irq2_length; i++)
-        if (irq2[i] <= irq2[i - 1])
-            return 0;
-    size_t place = 0;
-    uint32_t r[16] = { 0 };
-    uint32_t io[23] = { 0 };
-    uint32_t status = 0, pc = 0, left = 0;
-    bool handler = false;
-    uint64_t age = 0;
-    uint8_t *p = log;
-    const uint8_t *end = log + log_length;
-
-    for (uint64_t i = 0; i < n; i++) {
-        if (status != 0 || age == LIMIT)
-            break;
-        bool hit = place < irq2_length && irq2[place] == age;
-        size_t room = (size_t)(end - p);
-        if (room < MOST && room < lines_length(image, r, io, pc, handler, age, hit))
-            break;
-        uint32_t began = left;
-
-        // Steps 1 and 2.
-        if (hit) {
-            io[IRQ2STATUS] = 1;
-            place++;
-        }
-        if (!handler && is_asked(io)) {
-            io[IRQRETURN] = pc;
-            pc = io[IRQHANDLER];
-            handler = true;
-        }
-
-        // Step 3.
-        uint64_t word = image[pc];
-        uint32_t high = (uint32_t)(word >> 24);
-        uint32_t op = high >> 16 & 0xFF, rd = high >> 12 & 15;
-        r[1] = sign_extend((uint32_t)word >> 12 & 0xFFF);
-        r[2] = sign_extend((uint32_t)word & 0xFFF);
-        uint32_t s = r[high >> 8 & 15], t = r[high >> 4 & 15], m = r[high & 15], d = r[rd];
-        p = put_line_t(p, pc, word, r);
-
-        // Step 4. A write to R0 is undone below; R1 and R2 are set before they are read.
-        uint32_t next = (pc + 1) & 0xFFF, a = s + t;
-        switch (op) {
-        case ADD: r[rd] = s + t + m; pc = next; break;
-        case SUB: r[rd] = s - t - m; pc = next; break;
-        case MAC: r[rd] = s * t + m; pc = next; break;
-        case AND: r[rd] = s & t & m; pc = next; break;
-        case OR: r[rd] = s | t | m; pc = next; break;
-        case XOR: r[rd] = s ^ t ^ m; pc = next; break;
-        case SLL: r[rd] = s << (t & 31); pc = next; break;
-        case SRA: r[rd] = (uint32_t)((int32_t)s >> (t & 31)); pc = next; break;
-        case SRL: r[rd] = s >> (t & 31); pc = next; break;
-        case BEQ: pc = s == t ? m & 0xFFF : next; break;
-        case BNE: pc = s != t ? m & 0xFFF : next; break;
-        case BLT: pc = (int32_t)s < (int32_t)t ? m & 0xFFF : next; break;
-        case BGT: pc = (int32_t)s > (int32_t)t ? m & 0xFFF : next; break;
-        case BLE: pc = (int32_t)s <= (int32_t)t ? m & 0xFFF : next; break;
-        case BGE: pc = (int32_t)s >= (int32_t)t ? m & 0xFFF : next; break;
-        case JAL: r[rd] = next; pc = m & 0xFFF; break;
-        case LW:
-            if (a >= MEMORY) {
-                status = 3;
-                break;
-            }
-            r[rd] = memory[a] + m;
-            pc = next;
-            break;
-        case SW:
-            if (a >= MEMORY) {
-                status = 3;
-                break;
-            }
-            memory[a] = m + d;
-            pc = next;
-            break;
-        case RETI:
-            pc = io[IRQRETURN];
-            handler = false;
-            break;
-        case IN:
-            if (!is_listed(a)) {
-                status = 4;
-                break;
-            }
-            p = put_line_h(p, age, 0, a, io[a]);
-            r[rd] = io[a];
-            pc = next;
-            break;
-        case OUT:
-            if (!is_listed(a)) {
-                status = 4;
-                break;
-            }
-            p = put_line_h(p, age, 1, a, m);
-            switch (a) {
-            case LEDS:
-            case DISPLAY7SEG:
-                if (io[a] != m)
-                    p = put_line_ld(p, a == LEDS ? 'L' : 'D', age, m);
-                io[a] = m;
-                break;
-            case DISKCMD: {
-                uint32_t command = m & 3;
-                if (io[DISKSTATUS] != 0)
-                    break;
-                if (command == 0 || command == 3) {
-                    io[DISKCMD] = 0;
-                    break;
-                }
-                if (io[DISKBUFFER] > MEMORY - SECTOR) {
-                    status = 5;
-                    break;
-                }
-                uint32_t *buffer = memory + io[DISKBUFFER], *sector = disk + SECTOR * io[DISKSECTOR];
-                if (command == 1)
-                    memcpy(buffer, sector, SECTOR * sizeof *buffer);
-                else
-                    memcpy(sector, buffer, SECTOR * sizeof *buffer);
-                io[DISKCMD] = command;
-                io[DISKSTATUS] = 1;
-                left = 1024;
-                break;
-            }
-            case DISKSTATUS:
-                break;
-            case MONITORCMD:
-                if (m & 1)
-                    frame[io[MONITORADDR]] = (uint8_t)io[MONITORDATA];
-                break;
-            default:
-                io[a] = m & masks[a];
-            }
-            if (status == 0)
-                pc = next;
-            break;
-        case HALT: status = 1; break;
-        default: status = 2; break;
-        }
-        r[0] = 0;
-
-        // Steps 5 to 7.
-        if (io[TIMERENABLE]) {
-            if (io[TIMERCURRENT] == io[TIMERMAX]) {
-                io[IRQ0STATUS] = 1;
-                io[TIMERCURRENT] = 0;
-            } else {
-                io[TIMERCURRENT]++;
-            }
-        }
-        if (began > 0 && --left == 0) {
-            io[DISKCMD] = 0;
-            io[DISKSTATUS] = 0;
-            io[IRQ1STATUS] = 1;
-        }
-        io[CLKS]++;
-        age++;
-    }
-    return (size_t)(p - log);
-}
+#define SIMULATE c_run
+#include "simulate.h"
 
 // ---- the programs
 
@@ -512,7 +288,7 @@ struct side {
     double best;
 };
 
-static struct side proved = { .run = simp_bench_run }, plain = { .run = c_run };
+static struct side proved = { .run = simp_bench_run }, plain = { .run = c_run }, printed = { .run = printed_run };
 
 static double now(void)
 {
@@ -578,6 +354,61 @@ static bool are_equal(const char *name)
         return false;
     }
     return true;
+}
+
+// ---- the run that prints
+
+// Whether it prints the lines of the log, each without its letter in the file of its letter.
+static bool are_printed(uint64_t n, size_t room)
+{
+    char *texts[4];
+    size_t lengths[4], at[4] = { 0 };
+    for (int i = 0; i < 4; i++)
+        printed_files[i] = open_memstream(&texts[i], &lengths[i]);
+    run(&printed, n, room);
+    run(&plain, n, room);
+    for (int i = 0; i < 4; i++)
+        fclose(printed_files[i]);
+    bool same = true;
+    for (size_t from = 0, next; same && from < plain.length; from = next) {
+        const uint8_t *line = plain.log + from, *end = memchr(line, '\n', plain.length - from);
+        int i = line[0] == 'T' ? 0 : line[0] == 'H' ? 1 : line[0] == 'L' ? 2 : 3;
+        size_t length = (size_t)(end - line) - 1;
+        same = at[i] + length <= lengths[i] && memcmp(texts[i] + at[i], line + 2, length) == 0;
+        at[i] += length;
+        next = from + length + 2;
+    }
+    for (int i = 0; i < 4; i++) {
+        same = same && at[i] == lengths[i];
+        free(texts[i]);
+    }
+    return same;
+}
+
+// Times the proved run beside the one that prints, to files that keep nothing.
+static bool compare_printed(uint64_t n, size_t room)
+{
+    bool equal = true;
+    printf("%llu cycles a run beside one fprintf a field to /dev/null, the best of %d runs\n", (unsigned long long)n, PRINTED_RUNS);
+    printf("%-18s %8s %8s %8s  %s\n", "program", "proved", "printed", "ratio", "lines");
+    for (size_t k = 0; k < sizeof programs / sizeof *programs; k++) {
+        memset(image, 0, sizeof image);
+        programs[k].write(image);
+        bool same = are_printed(n, room);
+        equal = equal && same;
+        for (int i = 0; i < 4; i++)
+            printed_files[i] = fopen("/dev/null", "w");
+        proved.best = printed.best = 1e300;
+        for (int i = 0; i < PRINTED_RUNS; i++) {
+            double a = run(&proved, n, room), b = run(&printed, n, room);
+            proved.best = a < proved.best ? a : proved.best;
+            printed.best = b < printed.best ? b : printed.best;
+        }
+        for (int i = 0; i < 4; i++)
+            fclose(printed_files[i]);
+        printf("%-18s %8.2f %8.2f %8.4f  %s\n", programs[k].name, proved.best / n, printed.best / n, proved.best / printed.best, same ? "equal" : "DIFFER");
+    }
+    return equal;
 }
 
 // ---- random programs, compared and not timed
@@ -683,6 +514,8 @@ int main(int argc, char **argv)
         equal = equal && same;
         printf("%-18s %8.2f %8.2f %8.2f %10zu  %s\n", programs[k].name, proved.best / n, plain.best / n, proved.best / plain.best, plain.length, same ? "equal" : "DIFFER");
     }
+
+    equal = compare_printed(n < PRINTED_RUN ? n : PRINTED_RUN, room) && equal;
 
     printf("the proved run cut into logs of 64 KiB\n");
     for (size_t k = 0; k < sizeof programs / sizeof *programs; k++) {

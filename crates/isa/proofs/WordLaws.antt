@@ -1,11 +1,14 @@
--- Decoding and encoding undo each other on 48 bits. Assumes nothing.
-use Prim.Native.Nat.{ℕ, _/_, _%_, _^_}
-use mathlib.Core.Path.{_≡_, sym}
+-- Decoding and encoding undo each other on 48 bits; the sign of an immediate. Assumes nothing.
+use Prim.Native.Nat.{ℕ, _+_, _-_, _/_, _%_, _^_, _<_}
+use mathlib.Core.Path.{_≡_, refl, sym}
+use mathlib.Core.Bool.{Bool, true, false, cond}
 use native.Mathlib.Omega.{arith}
 use native.Mathlib.Nat.{add-assoc}
 use lib.Pow.{mod-pow-add}
+use lib.Dec.{ltb}
+use borrow.Author.Tests.{ltb-true, ltb-false}
 use Rattle.isa.specs.declared.Fields.{Fields}
-use Rattle.isa.specs.Word.{fieldsOf, wordOf, Fitting}
+use Rattle.isa.specs.Word.{fieldsOf, wordOf, Fitting, signExtended}
 
 pub decode-fits : (w : ℕ) → Fitting (fieldsOf w)
 decode-fits w = record { op = omega arith; rd = omega arith; rs = omega arith; rt = omega arith; rm = omega arith; imm1 = omega arith; imm2 = omega arith }
@@ -66,3 +69,11 @@ high-bits-not-read w = λ i. record { op = op i; rd = rd i; rs = rs i; rt = rt i
 
     imm2 : (w % 2 ^ 48) % 2 ^ 12 ≡ w % 2 ^ 12
     imm2 = omega arith
+
+-- The number that 2,048 more takes to the immediate with its sign turned is the immediate sign-extended.
+pub sign-wraps : (i r : ℕ) → i < 2 ^ 12 → r < 2 ^ 32 → (r + 2048) % 2 ^ 32 ≡ (i + 2048) % 4096 → r ≡ signExtended i
+sign-wraps i r h k e = go (ltb i (2 ^ 11)) refl
+  where
+    go : (t : Bool) → ltb i (2 ^ 11) ≡ t → r ≡ cond t i (2 ^ 32 - 2 ^ 12 + i)
+    go true low = let small = ltb-true i (2 ^ 11) low in omega arith
+    go false high = let large = ltb-false i (2 ^ 11) high in omega arith

@@ -38,8 +38,5 @@ pub fn sign_extend(immediate: u32) -> u32
     requires { ⌜ immediate < 2 ^ 12 ⌝ }
     ensures { λ r. ⌜ r ≡ signExtended immediate ⌝ }
 {
-    if immediate < 0x800 {
-        return immediate;
-    }
-    0xFFFF_F000 + immediate
+    std::num::wrapping_sub_u32((immediate + 0x800) % 0x1000, 0x800)
 }

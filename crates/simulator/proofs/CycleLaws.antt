@@ -1,13 +1,13 @@
 -- Steps 3 and 4 from what the code read, and the whole cycle from its steps. Assumes nothing.
-use Prim.Native.Nat.{ℕ, _+_}
+use Prim.Native.Nat.{ℕ, _+_, _/_, _%_, _^_}
 use mathlib.Core.Path.{_≡_, refl, sym, _∙_, ap}
 use mathlib.Core.Bool.{Bool}
 use mathlib.Core.List.{List, _++_}
 use native.Mathlib.Omega.{arith}
-use lib.ListN.{length, length-append, length-drop}
+use lib.ListN.{length, getD, length-append, length-drop}
 use Rattle.text.specs.Place.{put}
 use Rattle.isa.specs.declared.Fields.{Fields}
-use Rattle.isa.specs.Word.{fieldsOf}
+use Rattle.isa.specs.Word.{fieldsOf, signExtended}
 use Rattle.isa.specs.Operations.{operationOf}
 use Rattle.trace.specs.LogLines.{lineT}
 use Rattle.trace.proofs.LengthLaws.{length-T}
@@ -33,6 +33,11 @@ module _ (image : List ℕ) (c : Core) (registers after io memory disk frame : L
     (p : (o ≡ operandsOf f (packed c registers io memory disk frame)) × (after ≡ registersOf f (packed c registers io memory disk frame))) where
   m : Machine
   m = packed c registers io memory disk frame
+
+  -- R1 and R2 are the word's immediates.
+  pub immediates-are : (getD after 1 0 ≡ signExtended (word / 2 ^ 12 % 2 ^ 12)) × (getD after 2 0 ≡ signExtended (word % 2 ^ 12))
+  immediates-are =
+      (ap (λ (r : List ℕ). getD r 1 0) (p .1) ∙ ap (λ (g : Fields). signExtended (g .imm1)) d, ap (λ (r : List ℕ). getD r 2 0) (p .1) ∙ ap (λ (g : Fields). signExtended (g .imm2)) d)
 
   -- The lines by the word, its fields and operands.
   pub lines-are : lineT (c .pc) word after ++ ioLines (c .age) (operationOf (f .op)) o io ≡ linesAtFetch image (packed c registers io memory disk frame)

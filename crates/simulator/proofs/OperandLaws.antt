@@ -19,12 +19,13 @@ by-immediates (x ∷ []) h e = absurd (omega arith)
 by-immediates (x ∷ y ∷ []) h e = absurd (omega arith)
 by-immediates (x ∷ y ∷ z ∷ r) h e = ap (λ (n : ℕ). n ∷ y ∷ z ∷ r) e
 
--- The T line from its front and the text that is kept.
-pub line-of : (pc word : ℕ) (registers text : List ℕ) → Kept registers text → frontT pc word (getD registers 1 0) (getD registers 2 0) ++ text ≡ lineT pc word registers
-line-of pc word registers text k =
-    ap (λ (t : List ℕ). frontT pc word (getD registers 1 0) (getD registers 2 0) ++ t) (k .is)
-    ∙ line-t-is pc word (getD registers 1 0) (getD registers 2 0) (drop 3 registers)
-    ∙ ap (lineT pc word) (sym (by-immediates registers (k .sixteen) (k .zero)))
+-- The T line from its front, in which R1 and R2 stand, and the text that is kept.
+pub line-of : (pc word a b : ℕ) (registers text : List ℕ) → Kept registers text → getD registers 1 0 ≡ a → getD registers 2 0 ≡ b
+    → frontT pc word a b ++ text ≡ lineT pc word registers
+line-of pc word a b registers text k p q =
+    ap (λ (t : List ℕ). frontT pc word a b ++ t) (k .is)
+    ∙ line-t-is pc word a b (drop 3 registers)
+    ∙ ap (lineT pc word) (rw (← p, ← q) (sym (by-immediates registers (k .sixteen) (k .zero))))
 
 -- R1 and R2 set.
 pub immediates-set : (r : List ℕ) (a b : ℕ) → length r ≡ 16 → getD r 0 0 ≡ 0 → set (set r 1 a) 2 b ≡ 0 ∷ a ∷ b ∷ drop 3 r

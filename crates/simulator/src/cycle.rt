@@ -15,11 +15,11 @@ use trace::log_lines::put_line_t;
 use words::arithmetic::plus;
 ghost use mathlib.Core.Path.{_≡_};
 ghost use mathlib.Core.List.{List, _++_};
-ghost use Prim.Native.Nat.{ℕ, _+_, _^_, _≤_, _<_};
+ghost use Prim.Native.Nat.{ℕ, _+_, _/_, _%_, _^_, _≤_, _<_};
 ghost use lib.ListN.{length, getD, drop};
 ghost use Rattle.text.specs.Numerals.{HexWords};
 ghost use Rattle.text.specs.Place.{put};
-ghost use Rattle.isa.specs.Word.{Fitting as FieldsFit};
+ghost use Rattle.isa.specs.Word.{Fitting as FieldsFit, signExtended};
 ghost use Rattle.isa.specs.Operations.{operationOf};
 ghost use Rattle.trace.specs.LogLines.{lineT};
 ghost use Rattle.machine.specs.declared.Core.{Core as CoreOf};
@@ -138,9 +138,10 @@ fn put_lines(
     table: &[u64; 1024],
 ) -> usize
     requires { ⌜ (at + length (lineT (c .pc) word (now regs) ++ ioLines (c .age) (operationOf op) o (now io)) ≤ length (now log)) × (Kept (now regs) (now text) × HexWords (now table)) ⌝ }
+    requires { ⌜ (getD (now regs) 1 0 ≡ signExtended (word / 2 ^ 12 % 2 ^ 12)) × (getD (now regs) 2 0 ≡ signExtended (word % 2 ^ 12)) ⌝ }
     ensures { λ r. ⌜ (now (log .exit) ≡ put (now (log .entry)) at (lineT (c .pc) word (now (regs .entry)) ++ ioLines (c .age) (operationOf op) o (now (io .entry)))) × (r ≡ at + length (lineT (c .pc) word (now (regs .entry)) ++ ioLines (c .age) (operationOf op) o (now (io .entry)))) ⌝ }
 {
-    let line = put_line_t(log, at, c.pc, word, regs[1], regs[2], text, table);
+    let line = put_line_t(log, at, c.pc, word, text, table);
     put_io_lines(log, line, c.age, op, o, io, table)
 }
 

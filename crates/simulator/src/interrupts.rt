@@ -41,7 +41,13 @@ fn enter_handler(c: Core, io: &mut [u32; 23]) -> Core
     ensures { λ r. ⌜ ((regs memory disk frame : List ℕ) → packed r regs (now (io .exit)) memory disk frame ≡ interrupted (packed c regs (now (io .entry)) memory disk frame)) ⌝ }
 {
     if c.handler != 0 {
-        return c;
+        return Core {
+            status: c.status,
+            handler: c.handler,
+            pc: c.pc,
+            age: c.age,
+            left: c.left,
+        };
     }
     if is_asked(io) {
         let to = io[IRQHANDLER];
@@ -54,7 +60,13 @@ fn enter_handler(c: Core, io: &mut [u32; 23]) -> Core
             left: c.left,
         };
     }
-    c
+    Core {
+        status: c.status,
+        handler: c.handler,
+        pc: c.pc,
+        age: c.age,
+        left: c.left,
+    }
 }
 
 // Whether some enable and its status are both 1.

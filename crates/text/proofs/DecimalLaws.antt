@@ -1,14 +1,18 @@
 -- Laws of numerals without leading zeros, over the base. Assumes nothing.
-use Prim.Native.Nat.{ℕ, zero, suc, _-_, _/_, _^_, _≤_, _<_, zero-le}
-use mathlib.Core.Path.{_≡_, refl, _∙_, ap}
+use Prim.Native.Nat.{ℕ, zero, suc, _+_, _-_, _*_, _/_, _%_, _^_, _≤_, _<_, zero-le}
+use mathlib.Core.Path.{_≡_, refl, sym, _∙_, ap}
 use mathlib.Core.Bool.{Bool, true, false, cond}
+use mathlib.Core.List.{List, [], _∷_, _++_}
 use native.Mathlib.Nat.{le-refl, le-trans, le-antisymm, div-lt-self, zero-div, zero-lt-suc, le-of-lt, not-le-of-lt, pow-le-pow-right, le-of-suc-le-suc, pow-suc, div-lt-iff-lt-mul, le-div-iff-mul-le, mod-eq-of-lt, pow-zero, one-mul}
 use native.Mathlib.Omega.{arith}
 use lib.ListN.{length}
-use lib.Dec.{ltb, leb}
-use borrow.Author.Tests.{lt-ltb, le-ltb, ltb-true, ltb-false, leb-true, leb-false}
-use Rattle.text.specs.Numerals.{digitCountUpTo, digitCount, decimal, allDigits, value}
-use Rattle.text.proofs.DigitLaws.{length-digits, all-written, value-written}
+use lib.Dec.{eqb, ltb, leb}
+use borrow.Author.Tests.{lt-ltb, le-ltb, ltb-true, ltb-false, leb-true, leb-false, eqb-true}
+use Rattle.text.specs.Numerals.{digit, digits, digitCountUpTo, digitCount, decimal, allDigits, value}
+use Rattle.text.specs.Place.{put}
+use Rattle.text.proofs.PieceLaws.{more}
+use Rattle.text.proofs.Truth.{below}
+use Rattle.text.proofs.DigitLaws.{length-digits, digits-split, all-written, value-written}
 
 module _ (b : ℕ) (two : 1 < b) where
   -- One digit less leaves a smaller number.
@@ -103,6 +107,45 @@ length-decimal v = length-digits 10 (digitCount 10 v) v
 pub all-decimal : (v : ℕ) → allDigits 10 (decimal v) ≡ true
 unfolding decimal
 all-decimal v = all-written 10 (omega arith) (omega arith) (digitCount 10 v) v
+
+-- One digit, and two.
+pub decimal-one : (v : ℕ) → v < 10 → decimal v ≡ digit v ∷ []
+unfolding decimal digits
+decimal-one v h = let low : v % 10 ≡ v = mod-eq-of-lt h in rw (count-one 10 (omega arith) v h, low)
+
+pub decimal-two : (v : ℕ) → 10 ≤ v → v < 100 → decimal v ≡ digits 10 2 v
+unfolding decimal
+decimal-two v low high = rw (count-is 10 (omega arith) 1 v low high)
+
+-- From three digits on the last two stand after those of the number without them.
+pub count-hundreds : (v : ℕ) → 100 ≤ v → digitCount 10 v ≡ digitCount 10 (v / 100) + 2
+count-hundreds v h =
+    let tens : v / 10 / 10 ≡ v / 100 = omega arith in
+    rw (count-more 10 (omega arith) v (omega arith), count-more 10 (omega arith) (v / 10) (omega arith), tens) (omega arith)
+
+pub count-thousands : (v : ℕ) → 10000 ≤ v → digitCount 10 v ≡ digitCount 10 (v / 10000) + 4
+count-thousands v h =
+    let low : v / 100 / 100 ≡ v / 10000 = omega arith in
+    rw (count-hundreds v (omega arith), count-hundreds (v / 100) (omega arith), low) (omega arith)
+
+pub decimal-hundreds : (v : ℕ) → 100 ≤ v → decimal v ≡ decimal (v / 100) ++ digits 10 2 (v % 100)
+unfolding decimal
+decimal-hundreds v h = rw (count-hundreds v h) (digits-split 10 (omega arith) (digitCount 10 (v / 100)) 2 v)
+
+pub hundreds-laid : (v w at p : ℕ) (d e f : List ℕ) → 100 ≤ v → w ≡ v / 100 → p ≡ at + digitCount 10 w
+    → e ≡ put d at (decimal w) → f ≡ put e p (digits 10 2 (v % 100)) → f ≡ put d at (decimal v)
+hundreds-laid v w at p d e f h we pe q r =
+    more d e f at p (decimal w) (digits 10 2 (v % 100)) (rw length-decimal pe) q r
+    ∙ ap (put d at) (rw we (sym (decimal-hundreds v h)))
+
+-- The two digits of a number below 100 are the hexadecimal digits of the byte that has them in its halves.
+pub halves-digits : (n : ℕ) → n < 100 → digits 16 2 (n + n / 10 * 6) ≡ digits 10 2 n
+unfolding digits
+halves-digits n h =
+    let first : (n + n / 10 * 6) / 16 % 16 ≡ n / 10 = eqb-true _ _ (below (λ n. eqb ((n + n / 10 * 6) / 16 % 16) (n / 10)) 100 refl n h) in
+    let second : (n + n / 10 * 6) % 16 ≡ n % 10 = eqb-true _ _ (below (λ n. eqb ((n + n / 10 * 6) % 16) (n % 10)) 100 refl n h) in
+    let tens : n / 10 % 10 ≡ n / 10 = omega arith in
+    rw (first, second, tens)
 
 -- A decimal reads back as its number.
 pub value-decimal : (v : ℕ) → value 10 (decimal v) ≡ v

@@ -2,13 +2,14 @@
 use Prim.Native.Nat.{ℕ, zero, suc, _+_, _-_, _*_, _/_, _%_, _^_, _≤_, _<_}
 use mathlib.Core.Path.{_≡_, refl, sym, _∙_, ap}
 use mathlib.Core.List.{List, _∷_, _++_}
-use native.Mathlib.Nat.{zero-add, suc-add, add-mul-mod-self-right, add-mul-div-right, mod-eq-of-lt, div-eq-of-lt, div-one, div-div-eq-div-mul, pow-zero, pow-succ', mod-lt, pow-suc, mul-one, mul-assoc, pow-le-pow-right, one-le-pow, lt-of-lt-of-le, mul-lt-mul-of-pos-right, mul-le-mul-left}
+use native.Mathlib.Nat.{zero-add, suc-add, add-mul-mod-self-right, add-mul-div-right, mod-eq-of-lt, div-eq-of-lt, div-one, div-div-eq-div-mul, pow-zero, pow-succ', mod-lt, pow-suc, mul-one, mul-assoc, pow-le-pow-right, one-le-pow, lt-of-lt-of-le, mul-lt-mul-of-pos-right, mul-le-mul-left, add-comm, div-add-mod'}
 use native.Mathlib.Omega.{arith}
-use lib.ListN.{length, getD}
+use lib.ListN.{length, getD, take, drop}
+use lib.Seq.{take-at, drop-at}
 use Rattle.text.specs.Numerals.{digit, digits, lowBytes, HexDigits, HexWords}
 use Rattle.text.specs.Place.{put}
 use Rattle.text.proofs.PutLaws.{put-append}
-use Rattle.text.proofs.DigitLaws.{digit-lt, digits-split, digits-low}
+use Rattle.text.proofs.DigitLaws.{digit-lt, digits-split, digits-low, length-digits}
 
 -- ---- the low bytes of a number
 
@@ -27,6 +28,35 @@ low-split (suc j) k v = rw (suc-add, lowBytes, low-split j k (v / 256), div-div-
 -- Low bytes laid after those below them.
 pub put-low : (d e : List ℕ) (at j k v : ℕ) → e ≡ put d at (lowBytes j v) → put e (at + j) (lowBytes k (v / 256 ^ j)) ≡ put d at (lowBytes (j + k) v)
 put-low d e at j k v q = rw (q, low-split j k v, put-append, length-low)
+
+-- They don't know of what stands above them.
+low-mod : (j c u : ℕ) → lowBytes j (c + u * 256 ^ j) ≡ lowBytes j c
+unfolding lowBytes
+low-mod zero c u = refl
+low-mod (suc j) c u =
+    let shifted : u * 256 ^ suc j ≡ u * 256 ^ j * 256 = rw (pow-suc, mul-assoc) in
+    rw (shifted, add-mul-mod-self-right c (u * 256 ^ j) 256, add-mul-div-right c (u * 256 ^ j) {z = 256} (omega arith), low-mod j (c / 256) u)
+
+-- Two numbers side by side: the bytes of both.
+pub low-beside : (j k c u : ℕ) → c < 256 ^ j → lowBytes (j + k) (c + u * 256 ^ j) ≡ lowBytes j c ++ lowBytes k u
+low-beside j k c u h =
+    rw (low-split j k (c + u * 256 ^ j), low-mod j c u, add-mul-div-right c u {z = 256 ^ j} (one-le-pow j 256 (omega arith)), div-eq-of-lt h, zero-add)
+
+-- Digits in the middle of those that a number holds: i before them, and k after them.
+pub low-digits : (i j k v x : ℕ) → lowBytes (i + (j + k)) v ≡ digits 16 (i + (j + k)) x → lowBytes j (v / 256 ^ i) ≡ digits 16 j (x / 16 ^ k)
+low-digits i j k v x e =
+    let front : lowBytes (j + k) (v / 256 ^ i) ≡ digits 16 (j + k) x =
+    sym (drop-at (lowBytes i v) (lowBytes (j + k) (v / 256 ^ i)) i (length-low i v))
+    ∙ ap (drop i) (sym (low-split i (j + k) v) ∙ e ∙ digits-split 16 (omega arith) i (j + k) x)
+    ∙ drop-at (digits 16 i (x / 16 ^ (j + k))) (digits 16 (j + k) (x % 16 ^ (j + k))) i (length-digits 16 i (x / 16 ^ (j + k)))
+    ∙ digits-low 16 (omega arith) (j + k) x in
+    sym (take-at (lowBytes j (v / 256 ^ i)) (lowBytes k (v / 256 ^ i / 256 ^ j)) j (length-low j (v / 256 ^ i)))
+    ∙ ap (take j) (sym (low-split j k (v / 256 ^ i)) ∙ front ∙ digits-split 16 (omega arith) j k x)
+    ∙ take-at (digits 16 j (x / 16 ^ k)) (digits 16 k (x % 16 ^ k)) j (length-digits 16 j (x / 16 ^ k))
+
+-- So are they where a number above them is cut off.
+pub low-cut : (j v : ℕ) → lowBytes j (v % 256 ^ j) ≡ lowBytes j v
+low-cut j v = sym (low-mod j (v % 256 ^ j) (v / 256 ^ j)) ∙ ap (lowBytes j) (add-comm (v % 256 ^ j) (v / 256 ^ j * 256 ^ j) ∙ div-add-mod' v (256 ^ j))
 
 -- A byte below the others.
 low-front : (k c u : ℕ) → c < 256 → lowBytes (suc k) (c + u * 256) ≡ c ∷ lowBytes k u
@@ -93,6 +123,14 @@ paired-bytes (suc k) x = let two : suc k * 2 ≡ suc (suc (k * 2)) = omega arith
 -- Its first entries are the pairs themselves.
 pub entry-pair : (t : List ℕ) (n : ℕ) → HexWords t → n < 256 → getD t n 0 ≡ pair n
 entry-pair t n w h = rw (zero-add, pow-zero, mul-one) at (w 0 n (omega arith) h)
+
+-- The second digit of an entry below 16 is the digit of its number.
+pub entry-digit : (t : List ℕ) (n : ℕ) → HexWords t → n < 16 → getD t n 0 / 256 % 256 ≡ digit n
+entry-digit t n w h =
+    let first = digit-lt (n / 16) (omega arith) in
+    let second = digit-lt (n % 16) (omega arith) in
+    let low : n % 16 ≡ n = mod-eq-of-lt h in
+    rw (entry-pair t n w (omega arith), add-mul-div-right (digit (n / 16)) (digit (n % 16)) {z = 256} (omega arith), div-eq-of-lt {n = digit (n / 16)} {m = 256} (omega arith), zero-add, mod-eq-of-lt {n = digit (n % 16)} {m = 256} (omega arith), low)
 
 -- The sum of a word's four entries has all its digits.
 pub entries-sum : (t : List ℕ) (x : ℕ) → HexWords t → x < 2 ^ 32

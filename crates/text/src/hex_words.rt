@@ -77,6 +77,14 @@ fn wide_pair(one: &[u64; 16], n: usize) -> u64
     one[n / 16] + one[n % 16] * 256
 }
 
+// The hexadecimal digit of a number below 16.
+pub fn hex_digit(n: usize, words: &[u64; 1024]) -> u8
+    requires { ⌜ (n < 16) × HexWords (now words) ⌝ }
+    ensures { λ r. ⌜ r ≡ digitOf n ⌝ }
+{
+    (words[n] / 256 % 256) as u8
+}
+
 // Lays the two hexadecimal digits of a byte at a place.
 pub fn put_hex_byte(out: &mut [u8], at: usize, n: usize, words: &[u64; 1024])
     requires { ⌜ (at + 2 ≤ length (now out)) × ((n < 256) × HexWords (now words)) ⌝ }
@@ -94,7 +102,7 @@ pub fn put_hex_word(out: &mut [u8], at: usize, x: u32, words: &[u64; 1024])
 }
 
 // The eight hexadecimal digits of a word, the first in the low byte.
-fn hex_word(x: u32, words: &[u64; 1024]) -> u64
+pub fn hex_word(x: u32, words: &[u64; 1024]) -> u64
     requires { ⌜ HexWords (now words) ⌝ }
     ensures { λ r. ⌜ lowBytes 8 r ≡ digits 16 8 x ⌝ }
 {

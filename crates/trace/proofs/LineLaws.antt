@@ -1,16 +1,19 @@
 -- The log's lines, as the code lays their pieces. Assumes nothing.
 use Prim.Native.Char.{code}
-use Prim.Native.Nat.{ℕ, _+_, _/_, _%_, _^_}
+use Prim.Native.Nat.{ℕ, _+_, _*_, _/_, _%_, _^_, _≤_, _<_}
 use mathlib.Core.Path.{_≡_, refl, sym, _∙_, ap}
 use mathlib.Core.List.{List, [], _∷_, _++_, append-assoc}
 use native.Mathlib.Omega.{arith}
 use lib.ListN.{length, set, length-append}
+use borrow.Author.Tests.{lt-ltb, le-ltb}
 use Rattle.text.specs.Bytes.{bytes}
-use Rattle.text.specs.Numerals.{digit, digits, digitCount, decimal}
+use Rattle.text.specs.Numerals.{digit, digits, digitCount, decimal, lowBytes}
 use Rattle.text.specs.Lines.{LF}
 use Rattle.text.specs.Place.{put}
 use Rattle.text.proofs.DigitLaws.{length-digits, digits-split, digits-low}
 use Rattle.text.proofs.DecimalLaws.{length-decimal}
+use Rattle.text.proofs.HexWordLaws.{low-beside, low-digits, low-cut}
+use Rattle.isa.specs.Word.{signExtended}
 use Rattle.isa.specs.Registers.{ioName}
 use Rattle.trace.specs.LogLines.{field, registerFields, registersText, frontT, lineT, lineH, lineLD}
 use Rattle.text.proofs.PieceLaws.{more, after-store}
@@ -53,18 +56,49 @@ code-laid w at d e f g p q r =
     r
     ∙ ap (put d at) (code-digits w)
 
+-- The eight digits of an immediate: five by its sign before those of its 12 bits.
+module _ (i low : ℕ) (h : i < 2 ^ 12) (e : lowBytes 3 low ≡ digits 16 3 i) where
+  -- Five digits, held by a number c, that are those of the number w above the 12 bits.
+  signed : (c w x : ℕ) → c < 256 ^ 5 → lowBytes 5 c ≡ digits 16 5 w → x ≡ w * 16 ^ 3 + i → lowBytes 8 (c + low * 256 ^ 5) ≡ digits 16 8 x
+  signed c w x fits q xe =
+      let high : x / 16 ^ 3 ≡ w = omega arith in
+      let rest : x % 16 ^ 3 ≡ i = omega arith in
+      low-beside 5 3 c low fits
+      ∙ rw (q, e, ← high) (ap (λ (n : ℕ). digits 16 5 (x / 16 ^ 3) ++ digits 16 3 n) (sym rest) ∙ sym (digits-split 16 (omega arith) 5 3 x))
+
+  pub low-immediate : i < 2 ^ 11 → lowBytes 8 (206966894640 + low * 256 ^ 5) ≡ digits 16 8 (signExtended i)
+  unfolding lowBytes digits
+  low-immediate k = signed 206966894640 0 (signExtended i) (omega arith) refl (rw (lt-ltb i (2 ^ 11) k) (omega arith))
+
+  pub high-immediate : 2 ^ 11 ≤ i → lowBytes 8 (301826721350 + low * 256 ^ 5) ≡ digits 16 8 (signExtended i)
+  unfolding lowBytes digits
+  high-immediate k = signed 301826721350 1048575 (signExtended i) (omega arith) refl (rw (le-ltb i (2 ^ 11) k) (omega arith))
+
+-- The digits of a word's immediates stand in its last eight.
+module _ (word low : ℕ) (e : lowBytes 8 low ≡ digits 16 8 (word % 2 ^ 32)) where
+  pub first-digits : lowBytes 3 (low / 65536 % 16777216) ≡ digits 16 3 (word / 2 ^ 12 % 2 ^ 12)
+  first-digits =
+      let cut : word % 2 ^ 32 / 16 ^ 3 % 16 ^ 3 ≡ word / 2 ^ 12 % 2 ^ 12 = omega arith in
+      low-cut 3 (low / 65536) ∙ low-digits 2 3 3 low (word % 2 ^ 32) e ∙ sym (digits-low 16 (omega arith) 3 (word % 2 ^ 32 / 16 ^ 3)) ∙ ap (digits 16 3) cut
+
+  pub second-digits : lowBytes 3 (low / 1099511627776) ≡ digits 16 3 (word % 2 ^ 12)
+  second-digits =
+      let cut : word % 2 ^ 32 / 16 ^ 0 % 16 ^ 3 ≡ word % 2 ^ 12 = omega arith in
+      low-digits 5 3 0 low (word % 2 ^ 32) e ∙ sym (digits-low 16 (omega arith) 3 (word % 2 ^ 32 / 16 ^ 0)) ∙ ap (digits 16 3) cut
+
 -- Three registers, each in its field.
 abbrev three : ℕ → ℕ → ℕ → List ℕ
 three a b c = field (digits 16 8 a) ++ field (digits 16 8 b) ++ field (digits 16 8 c)
 
--- They are laid one after another.
-pub three-laid : (a b c at : ℕ) (d e f g : List ℕ)
-    → e ≡ put d at (field (digits 16 8 a)) → f ≡ put e (at + 9) (field (digits 16 8 b)) → g ≡ put f (at + 18) (field (digits 16 8 c))
-    → g ≡ put d at (three a b c)
-three-laid a b c at d e f g p q r =
-    more d f g at (at + 18) (field (digits 16 8 a) ++ field (digits 16 8 b)) _ (simp (length-append, length-digits) (omega arith))
-    (more d e f at (at + 9) (field (digits 16 8 a)) _ (simp length-digits (omega arith)) p q)
-    r
+-- R0 and the space after it are laid at once, the digits of the others after them.
+pub low-registers-laid : (xs ys : List ℕ) (at : ℕ) (d e f g : List ℕ) → length xs ≡ 8
+    → e ≡ put d at (bytes " 00000000 ") → f ≡ put e (at + 10) xs → g ≡ put (set f (at + 18) (code " ")) (at + 19) ys
+    → g ≡ put d at (field (digits 16 8 0) ++ field xs ++ field ys)
+unfolding digits
+low-registers-laid xs ys at d e f g h p q r =
+    more d f g at (at + 18) (field (digits 16 8 0) ++ field xs) _ (omega arith)
+    (more d e f at (at + 10) (bytes " 00000000 ") xs (omega arith) p q)
+    (after-store f g (at + 18) (at + 19) (code " ") _ (omega arith) r)
 
 -- Three fields after f go with those that follow them.
 regroup : (f a b c rs l : List ℕ) → f ++ (a ++ b ++ c) ++ (rs ++ l) ≡ f ++ (a ++ (b ++ (c ++ rs))) ++ l

@@ -1,6 +1,6 @@
 // Fields of a line: a space, and what stands after it.
 use names::put_io_name;
-use text::decimal::put_decimal;
+use text::decimal::put_decimal_by_table;
 use text::hex_words::put_hex_word;
 use text::lines::LF;
 use text::place::put_bytes;
@@ -35,13 +35,13 @@ pub fn put_last_word(out: &mut [u8], at: usize, x: u32, table: &[u64; 1024]) -> 
 }
 
 // A line's letter and the cycle in decimal; returns the place after them.
-pub fn put_cycle(out: &mut [u8], at: usize, letter: u8, c: u64) -> usize
-    requires { ⌜ at + 2 + digitCount 10 c ≤ length (now out) ⌝ }
+pub fn put_cycle(out: &mut [u8], at: usize, letter: u8, c: u64, table: &[u64; 1024]) -> usize
+    requires { ⌜ (at + 2 + digitCount 10 c ≤ length (now out)) × HexWords (now table) ⌝ }
     ensures { λ r. ⌜ (now (out .exit) ≡ put (now (out .entry)) at (letter ∷ field (decimal c))) × (r ≡ at + 2 + digitCount 10 c) ⌝ }
 {
     out[at] = letter;
     out[at + 1] = b' ';
-    put_decimal(out, at + 2, c)
+    put_decimal_by_table(out, at + 2, c, table)
 }
 
 // READ or WRITE; returns the place after it.

@@ -3,51 +3,59 @@ use crate::fields::put_cycle;
 use crate::fields::put_last_word;
 use crate::fields::put_name;
 use crate::fields::put_way;
-use crate::fields::put_word;
 use isa::io::io_name_length;
 use text::decimal::digit_count;
-use text::digits::digit;
+use text::hex_words::hex_digit;
+use text::hex_words::hex_word;
+use text::hex_words::put_eight;
 use text::hex_words::put_hex_byte;
-use text::hex_words::put_hex_word;
 use text::place::put_bytes;
 ghost use mathlib.Core.Path.{_≡_};
 ghost use mathlib.Core.List.{[], _∷_, _++_};
-ghost use Prim.Native.Nat.{ℕ, _+_, _≤_};
+ghost use Prim.Native.Nat.{ℕ, _+_, _/_, _%_, _^_, _≤_, _<_};
 ghost use lib.ListN.{length};
 ghost use Rattle.text.specs.Bytes.{bytes};
-ghost use Rattle.text.specs.Numerals.{digits, HexWords};
+ghost use Rattle.text.specs.Numerals.{digits, lowBytes, HexWords};
 ghost use Rattle.text.specs.Place.{put};
+ghost use Rattle.isa.specs.Word.{signExtended};
 ghost use Rattle.trace.specs.LogLines.{field, frontT, lineH, lineLD, wayOf};
 
-// Lays the T line of an instruction at a place and returns the place after it: its front and `kept`, the text of R3 to R15.
+// The digits that an immediate below 2,048 gets in front, and those that another gets.
+const FIVE_0: u64 = 0x30_3030_3030;
+
+const FIVE_F: u64 = 0x46_4646_4646;
+
+// Lays the T line of an instruction at a place and returns the place after it: its front and `kept`, the text of R3 to R15. R1 and R2 are the
+// word's immediates.
 pub fn put_line_t(
     out: &mut [u8],
     at: usize,
     pc: u32,
     word: u64,
-    imm1: u32,
-    imm2: u32,
     kept: &[u8; 118],
     table: &[u64; 1024],
 ) -> usize
     requires { ⌜ (at + 163 ≤ length (now out)) × ((length (now kept) ≡ 118) × HexWords (now table)) ⌝ }
-    ensures { λ r. ⌜ (now (out .exit) ≡ put (now (out .entry)) at (frontT pc word imm1 imm2 ++ now (kept .entry))) × (r ≡ at + 163) ⌝ }
+    ensures { λ r. ⌜ (now (out .exit) ≡ put (now (out .entry)) at (frontT pc word (signExtended (word / 2 ^ 12 % 2 ^ 12)) (signExtended (word % 2 ^ 12)) ++ now (kept .entry))) × (r ≡ at + 163) ⌝ }
 {
-    put_instruction(out, at, pc, word, table);
-    put_low_registers(out, at + 18, imm1, imm2, table);
+    let low = hex_word((word % 0x1_0000_0000) as u32, table);
+    let first = immediate_digits(word / 0x1000 % 0x1000, low / 0x1_0000 % 0x100_0000);
+    let second = immediate_digits(word % 0x1000, low / 0x100_0000_0000);
+    put_instruction(out, at, pc, word, low, table);
+    put_low_registers(out, at + 18, first, second);
     put_bytes(out, at + 45, kept)
 }
 
-// The front of a T line, 18 bytes: its letter, PC and the word.
-fn put_instruction(out: &mut [u8], at: usize, pc: u32, word: u64, table: &[u64; 1024])
-    requires { ⌜ (at + 18 ≤ length (now out)) × HexWords (now table) ⌝ }
+// The front of a T line, 18 bytes: its letter, PC and the word. `low` holds the word's last eight digits.
+fn put_instruction(out: &mut [u8], at: usize, pc: u32, word: u64, low: u64, table: &[u64; 1024])
+    requires { ⌜ (at + 18 ≤ length (now out)) × (HexWords (now table) × (lowBytes 8 low ≡ digits 16 8 (word % 2 ^ 32))) ⌝ }
     ensures { λ _. ⌜ now (out .exit) ≡ put (now (out .entry)) at (bytes "T" ++ field (digits 16 3 pc) ++ field (digits 16 12 word)) ⌝ }
 {
     out[at] = b'T';
     out[at + 1] = b' ';
     put_pc(out, at + 2, pc, table);
     out[at + 5] = b' ';
-    put_code(out, at + 6, word, table);
+    put_code(out, at + 6, word, low, table);
 }
 
 // PC, 3 digits.
@@ -55,28 +63,40 @@ fn put_pc(out: &mut [u8], at: usize, pc: u32, table: &[u64; 1024])
     requires { ⌜ (at + 3 ≤ length (now out)) × HexWords (now table) ⌝ }
     ensures { λ _. ⌜ now (out .exit) ≡ put (now (out .entry)) at (digits 16 3 pc) ⌝ }
 {
-    out[at] = digit((pc / 256 % 16) as u8);
+    out[at] = hex_digit((pc / 256 % 16) as usize, table);
     put_hex_byte(out, at + 1, (pc % 256) as usize, table);
 }
 
-// The word, 12 digits.
-fn put_code(out: &mut [u8], at: usize, word: u64, table: &[u64; 1024])
-    requires { ⌜ (at + 12 ≤ length (now out)) × HexWords (now table) ⌝ }
+// The word, 12 digits; `low` holds the last eight.
+fn put_code(out: &mut [u8], at: usize, word: u64, low: u64, table: &[u64; 1024])
+    requires { ⌜ (at + 12 ≤ length (now out)) × (HexWords (now table) × (lowBytes 8 low ≡ digits 16 8 (word % 2 ^ 32))) ⌝ }
     ensures { λ _. ⌜ now (out .exit) ≡ put (now (out .entry)) at (digits 16 12 word) ⌝ }
 {
     put_hex_byte(out, at, (word / 0x100_0000_0000 % 256) as usize, table);
     put_hex_byte(out, at + 2, (word / 0x1_0000_0000 % 256) as usize, table);
-    put_hex_word(out, at + 4, (word % 0x1_0000_0000) as u32, table);
+    put_eight(out, at + 4, low);
 }
 
-// R0, which is 0, and R1 and R2, the immediates: 27 bytes.
-fn put_low_registers(out: &mut [u8], at: usize, imm1: u32, imm2: u32, table: &[u64; 1024])
-    requires { ⌜ (at + 27 ≤ length (now out)) × HexWords (now table) ⌝ }
-    ensures { λ _. ⌜ now (out .exit) ≡ put (now (out .entry)) at (field (digits 16 8 0) ++ field (digits 16 8 imm1) ++ field (digits 16 8 imm2)) ⌝ }
+// R0, which is 0, and R1 and R2: 27 bytes. `first` and `second` hold the digits of R1 and R2.
+fn put_low_registers(out: &mut [u8], at: usize, first: u64, second: u64)
+    requires { ⌜ at + 27 ≤ length (now out) ⌝ }
+    ensures { λ _. ⌜ now (out .exit) ≡ put (now (out .entry)) at (field (digits 16 8 0) ++ field (lowBytes 8 first) ++ field (lowBytes 8 second)) ⌝ }
 {
-    put_word(out, at, 0, table);
-    put_word(out, at + 9, imm1, table);
-    put_word(out, at + 18, imm2, table);
+    put_bytes(out, at, b" 00000000 ");
+    put_eight(out, at + 10, first);
+    out[at + 18] = b' ';
+    put_eight(out, at + 19, second);
+}
+
+// The eight digits of an immediate of 12 bits, sign-extended, in a number; `low` holds those of the 12 bits.
+fn immediate_digits(immediate: u64, low: u64) -> u64
+    requires { ⌜ (immediate < 2 ^ 12) × ((low < 2 ^ 24) × (lowBytes 3 low ≡ digits 16 3 immediate)) ⌝ }
+    ensures { λ r. ⌜ lowBytes 8 r ≡ digits 16 8 (signExtended immediate) ⌝ }
+{
+    if immediate < 0x800 {
+        return FIVE_0 + low * 0x100_0000_0000;
+    }
+    FIVE_F + low * 0x100_0000_0000
 }
 
 // Lays an H line at a place and returns the place after it; `writes`: WRITE, else READ.
@@ -92,7 +112,7 @@ pub fn put_line_h(
     requires { ⌜ (at + length (lineH c (wayOf writes) n x) ≤ length (now out)) × HexWords (now table) ⌝ }
     ensures { λ r. ⌜ (now (out .exit) ≡ put (now (out .entry)) at (lineH c (wayOf writes) n x)) × (r ≡ at + length (lineH c (wayOf writes) n x)) ⌝ }
 {
-    let way_at = put_cycle(out, at, b'H', c);
+    let way_at = put_cycle(out, at, b'H', c, table);
     let name_at = put_way(out, way_at, writes);
     let value_at = put_name(out, name_at, n);
     put_last_word(out, value_at, x, table)
@@ -110,7 +130,7 @@ pub fn put_line_ld(
     requires { ⌜ (at + length (lineLD (letter ∷ []) c x) ≤ length (now out)) × HexWords (now table) ⌝ }
     ensures { λ r. ⌜ (now (out .exit) ≡ put (now (out .entry)) at (lineLD (letter ∷ []) c x)) × (r ≡ at + length (lineLD (letter ∷ []) c x)) ⌝ }
 {
-    let value_at = put_cycle(out, at, letter, c);
+    let value_at = put_cycle(out, at, letter, c, table);
     put_last_word(out, value_at, x, table)
 }
 

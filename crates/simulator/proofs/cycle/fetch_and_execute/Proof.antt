@@ -7,7 +7,7 @@ use borrow.Author.Needs.{needs}
 use Rattle.text.specs.Place.{put}
 use Rattle.machine.specs.declared.Operands.{Operands}
 use Rattle.isa.proofs.WordLaws.{decode-fits}
-use Rattle.simulator.proofs.CycleLaws.{kept-immediates, lines-are, executed-is}
+use Rattle.simulator.proofs.CycleLaws.{kept-immediates, immediates-are, lines-are, executed-is}
 use Rattle.simulator.proofs.cycle.fetch_and_execute.Statement.{statement}
 use Rattle.simulator.proofs.cycle.fetch_and_execute.Tie as tie
 
@@ -34,8 +34,11 @@ put-lines-requires c κs =
     let p = c .before .before .before .before .before .before .before .before .before .before .before .before .before .before .pre in
     let f = c .before .before .before .before .before .before .decode in
     let e = c .before .before .before .before .read-operands .ensures (a .c) (a .io .now) (a .memory .now) (a .disk .now) (a .frame .now) in (
-      rw (lines-are (a .image .now) (a .c) (a .regs .now) _ (a .io .now) (a .memory .now) (a .disk .now) (a .frame .now) _ (f .result) _ refl (f .ensures) e) (p .1 .1),
-      (kept-immediates (f .result) (a .c) (a .regs .now) _ (a .text .now) (a .io .now) (a .memory .now) (a .disk .now) (a .frame .now) (p .1 .0 .0) (e .1), p .1 .0 .1 .0),
+      (
+        rw (lines-are (a .image .now) (a .c) (a .regs .now) _ (a .io .now) (a .memory .now) (a .disk .now) (a .frame .now) _ (f .result) _ refl (f .ensures) e) (p .1 .1),
+        (kept-immediates (f .result) (a .c) (a .regs .now) _ (a .text .now) (a .io .now) (a .memory .now) (a .disk .now) (a .frame .now) (p .1 .0 .0) (e .1), p .1 .0 .1 .0),
+      ),
+      immediates-are (a .image .now) (a .c) (a .regs .now) _ (a .io .now) (a .memory .now) (a .disk .now) (a .frame .now) _ (f .result) _ refl (f .ensures) e,
     )
 
 execute-requires : tie.Need-execute-requires

@@ -16,19 +16,19 @@ add-out c = search needs
 slice-write-out-2 : tie.Need-slice-write-out-2
 slice-write-out-2 c = simp length-set (omega arith)
 
-add-put-decimal : tie.Need-add-put-decimal
-add-put-decimal c = search needs
+add-put-decimal-by-table : tie.Need-add-put-decimal-by-table
+add-put-decimal-by-table c = search needs
 
-put-decimal-requires : tie.Need-put-decimal-requires
-put-decimal-requires c κs = search needs
+put-decimal-by-table-requires : tie.Need-put-decimal-by-table-requires
+put-decimal-by-table-requires c κs = (simp length-set (omega arith), c .before .before .pre .1)
 
 same-length : tie.Need-same-length
-same-length c = c .before .before .put-decimal .kept .0 ∙ simp length-set
+same-length c = c .before .before .put-decimal-by-table .kept .0 ∙ simp length-set
 
 returns : tie.Need-returns
 returns c =
     let a = c .before .before .before .before .before .args in
-    let p = c .before .before .put-decimal in
+    let p = c .before .before .put-decimal-by-table in
     (after-store (a .out .now) _ (a .at) _ _ _ refl (after-store _ _ _ _ _ _ (omega arith) (p .ensures .0)), p .ensures .1)
 
 pub put-cycle-spec : {M : Type 1} → statement M
@@ -38,7 +38,7 @@ put-cycle-spec =
     slice-write-out
     add-out
     slice-write-out-2
-    add-put-decimal
-    put-decimal-requires
+    add-put-decimal-by-table
+    put-decimal-by-table-requires
     same-length
     returns)

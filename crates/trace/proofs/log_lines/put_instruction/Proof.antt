@@ -20,7 +20,7 @@ add-put-pc : tie.Need-add-put-pc
 add-put-pc c = search needs
 
 put-pc-requires : tie.Need-put-pc-requires
-put-pc-requires c κs = (simp length-set (omega arith), c .before .before .pre .1)
+put-pc-requires c κs = (simp length-set (omega arith), c .before .before .pre .1 .0)
 
 add-out-2 : tie.Need-add-out-2
 add-out-2 c = search needs

@@ -8,7 +8,7 @@ use Rattle.trace.proofs.log_lines.put_line_h.Statement.{statement}
 use Rattle.trace.proofs.log_lines.put_line_h.Tie as tie
 
 put-cycle-requires : tie.Need-put-cycle-requires
-put-cycle-requires c κs = let room = simp length-H at (c .before .before .pre .0) in omega arith
+put-cycle-requires c κs = let room = simp length-H at (c .before .before .pre .0) in (omega arith, c .before .before .pre .1)
 
 put-way-requires : tie.Need-put-way-requires
 put-way-requires c κs = let room = simp length-H at (c .before .before .before .before .before .before .pre .0) in omega arith

@@ -7,7 +7,7 @@ use Rattle.trace.proofs.log_lines.put_line_ld.Statement.{statement}
 use Rattle.trace.proofs.log_lines.put_line_ld.Tie as tie
 
 put-cycle-requires : tie.Need-put-cycle-requires
-put-cycle-requires c κs = let room = simp length-LD at (c .before .before .pre .0) in omega arith
+put-cycle-requires c κs = let room = simp length-LD at (c .before .before .pre .0) in (omega arith, c .before .before .pre .1)
 
 put-last-word-requires : tie.Need-put-last-word-requires
 put-last-word-requires c κs =

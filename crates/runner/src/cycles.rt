@@ -39,11 +39,11 @@ pub fn make_cycles(
     let mut c = start;
     let mut place = place_of(irq2, start.age);
     let mut at = 0;
-    let mut n = 0;
-    while n < budget {
+    let mut rest = budget;
+    while 0 < rest {
         let hit = is_at(irq2, place, c.age);
         if !may_cycle(c, hit, regs, io, image, log.len() - at) {
-            return ended(c, n, budget, at);
+            return ended(c, budget - rest, budget, at);
         }
         let s = cycle(
             c,
@@ -62,7 +62,7 @@ pub fn make_cycles(
         c = s.core;
         at = s.at;
         place = next_place(place, hit);
-        n += 1;
+        rest -= 1;
     }
-    ended(c, n, budget, at)
+    ended(c, budget - rest, budget, at)
 }

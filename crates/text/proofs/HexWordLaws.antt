@@ -29,7 +29,7 @@ low-split (suc j) k v = rw (suc-add, lowBytes, low-split j k (v / 256), div-div-
 pub put-low : (d e : List ℕ) (at j k v : ℕ) → e ≡ put d at (lowBytes j v) → put e (at + j) (lowBytes k (v / 256 ^ j)) ≡ put d at (lowBytes (j + k) v)
 put-low d e at j k v q = rw (q, low-split j k v, put-append, length-low)
 
--- They don't know of what stands above them.
+-- They are the same whatever stands above them.
 low-mod : (j c u : ℕ) → lowBytes j (c + u * 256 ^ j) ≡ lowBytes j c
 unfolding lowBytes
 low-mod zero c u = refl
@@ -54,7 +54,7 @@ low-digits i j k v x e =
     ∙ ap (take j) (sym (low-split j k (v / 256 ^ i)) ∙ front ∙ digits-split 16 (omega arith) j k x)
     ∙ take-at (digits 16 j (x / 16 ^ k)) (digits 16 k (x % 16 ^ k)) j (length-digits 16 j (x / 16 ^ k))
 
--- So are they where a number above them is cut off.
+-- They stay where what stands above them is cut off.
 pub low-cut : (j v : ℕ) → lowBytes j (v % 256 ^ j) ≡ lowBytes j v
 low-cut j v = sym (low-mod j (v % 256 ^ j) (v / 256 ^ j)) ∙ ap (lowBytes j) (add-comm (v % 256 ^ j) (v / 256 ^ j * 256 ^ j) ∙ div-add-mod' v (256 ^ j))
 

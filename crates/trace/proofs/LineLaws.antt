@@ -56,7 +56,7 @@ code-laid w at d e f g p q r =
     r
     ∙ ap (put d at) (code-digits w)
 
--- The eight digits of an immediate: five by its sign before those of its 12 bits.
+-- The eight digits of an immediate: five by its sign before those of its 12 bits. 206966894640 holds 00000, and 301826721350 FFFFF.
 module _ (i low : ℕ) (h : i < 2 ^ 12) (e : lowBytes 3 low ≡ digits 16 3 i) where
   -- Five digits, held by a number c, that are those of the number w above the 12 bits.
   signed : (c w x : ℕ) → c < 256 ^ 5 → lowBytes 5 c ≡ digits 16 5 w → x ≡ w * 16 ^ 3 + i → lowBytes 8 (c + low * 256 ^ 5) ≡ digits 16 8 x
@@ -125,20 +125,18 @@ line-t-is pc word a b rs = regroup (front pc word) (field (digits 16 8 0)) (fiel
 abbrev cycle : ℕ → ℕ → List ℕ
 cycle letter c = letter ∷ field (decimal c)
 
--- An H line, laid in four pieces.
-pub line-h-laid : (c n x at p q r : ℕ) (way d e f g h : List ℕ)
-    → p ≡ at + 2 + digitCount 10 c → q ≡ p + 1 + length way → r ≡ q + 1 + length (ioName n)
-    → e ≡ put d at (cycle (code "H") c) → f ≡ put e p (field way) → g ≡ put f q (field (ioName n)) → h ≡ put g r (field (digits 16 8 x) ++ (LF ∷ []))
-    → h ≡ put d at (lineH c way n x)
+-- An H line, laid in three pieces.
+pub line-h-laid : (c n x at p q : ℕ) (way d e f g : List ℕ)
+    → p ≡ at + 2 + digitCount 10 c → q ≡ p + 1 + length way
+    → e ≡ put d at (cycle (code "H") c) → f ≡ put e p (field way) → g ≡ put f q (field (ioName n) ++ (field (digits 16 8 x) ++ (LF ∷ [])))
+    → g ≡ put d at (lineH c way n x)
 unfolding lineH
-line-h-laid c n x at p q r way d e f g h pe qe re first second third last =
+line-h-laid c n x at p q way d e f g pe qe first second last =
     let front = cycle (code "H") c in
-    more d g h at r (front ++ field way ++ field (ioName n)) _ (simp (length-append, length-decimal) (omega arith))
-    (more d f g at q (front ++ field way) _ (simp (length-append, length-decimal) (omega arith))
+    more d f g at q (front ++ field way) _ (simp (length-append, length-decimal) (omega arith))
     (more d e f at p front _ (simp length-decimal (omega arith)) first second)
-    third)
     last
-    ∙ ap (put d at) (sym (append-assoc (front ++ field way ++ field (ioName n)) (field (digits 16 8 x)) (LF ∷ [])))
+    ∙ ap (put d at) (sym (append-assoc (front ++ field way) (field (ioName n)) (field (digits 16 8 x) ++ (LF ∷ []))) ∙ sym (append-assoc (front ++ field way ++ field (ioName n)) (field (digits 16 8 x)) (LF ∷ [])))
 
 -- An L or D line, laid in two.
 pub line-ld-laid : (letter c x at p : ℕ) (d e f : List ℕ) → p ≡ at + 2 + digitCount 10 c

@@ -3,7 +3,6 @@ use names::put_io_name;
 use text::decimal::put_decimal_by_table;
 use text::hex_words::put_hex_word;
 use text::lines::LF;
-use text::place::put_bytes;
 ghost use mathlib.Core.Path.{_≡_};
 ghost use mathlib.Core.List.{[], _∷_, _++_};
 ghost use Prim.Native.Nat.{_+_, _≤_};
@@ -12,7 +11,7 @@ ghost use Rattle.text.specs.Lines.{LF as lf};
 ghost use Rattle.text.specs.Numerals.{digits, digitCount, decimal, HexWords};
 ghost use Rattle.text.specs.Place.{put};
 ghost use Rattle.isa.specs.Registers.{ioName};
-ghost use Rattle.trace.specs.LogLines.{field, wayOf};
+ghost use Rattle.trace.specs.LogLines.{field};
 
 // A word in hexadecimal; returns the place after it.
 pub fn put_word(out: &mut [u8], at: usize, x: u32, table: &[u64; 1024]) -> usize
@@ -44,17 +43,6 @@ pub fn put_cycle(out: &mut [u8], at: usize, letter: u8, c: u64, table: &[u64; 10
     put_decimal_by_table(out, at + 2, c, table)
 }
 
-// READ or WRITE; returns the place after it.
-pub fn put_way(out: &mut [u8], at: usize, writes: bool) -> usize
-    requires { ⌜ at + 1 + length (wayOf writes) ≤ length (now out) ⌝ }
-    ensures { λ r. ⌜ (now (out .exit) ≡ put (now (out .entry)) at (field (wayOf writes))) × (r ≡ at + 1 + length (wayOf writes)) ⌝ }
-{
-    if writes {
-        return put_bytes(out, at, b" WRITE");
-    }
-    put_bytes(out, at, b" READ")
-}
-
 // The name of an I/O register; returns the place after it.
 pub fn put_name(out: &mut [u8], at: usize, n: u32) -> usize
     requires { ⌜ at + 1 + length (ioName n) ≤ length (now out) ⌝ }
@@ -62,4 +50,13 @@ pub fn put_name(out: &mut [u8], at: usize, n: u32) -> usize
 {
     out[at] = b' ';
     put_io_name(out, at + 1, n)
+}
+
+// The name of an I/O register, and a word in hexadecimal that ends its line; returns the place after the LF.
+pub fn put_named_word(out: &mut [u8], at: usize, n: u32, x: u32, table: &[u64; 1024]) -> usize
+    requires { ⌜ (at + 11 + length (ioName n) ≤ length (now out)) × HexWords (now table) ⌝ }
+    ensures { λ r. ⌜ (now (out .exit) ≡ put (now (out .entry)) at (field (ioName n) ++ (field (digits 16 8 x) ++ (lf ∷ [])))) × (r ≡ at + 11 + length (ioName n)) ⌝ }
+{
+    let value_at = put_name(out, at, n);
+    put_last_word(out, value_at, x, table)
 }

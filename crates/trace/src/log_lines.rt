@@ -1,8 +1,7 @@
 // The lines T, H, L and D.
 use crate::fields::put_cycle;
 use crate::fields::put_last_word;
-use crate::fields::put_name;
-use crate::fields::put_way;
+use crate::fields::put_named_word;
 use isa::io::io_name_length;
 use text::decimal::digit_count;
 use text::hex_words::hex_digit;
@@ -39,9 +38,9 @@ pub fn put_line_t(
     ensures { λ r. ⌜ (now (out .exit) ≡ put (now (out .entry)) at (frontT pc word (signExtended (word / 2 ^ 12 % 2 ^ 12)) (signExtended (word % 2 ^ 12)) ++ now (kept .entry))) × (r ≡ at + 163) ⌝ }
 {
     let low = hex_word((word % 0x1_0000_0000) as u32, table);
+    put_instruction(out, at, pc, word, low, table);
     let first = immediate_digits(word / 0x1000 % 0x1000, low / 0x1_0000 % 0x100_0000);
     let second = immediate_digits(word % 0x1000, low / 0x100_0000_0000);
-    put_instruction(out, at, pc, word, low, table);
     put_low_registers(out, at + 18, first, second);
     put_bytes(out, at + 45, kept)
 }
@@ -113,9 +112,12 @@ pub fn put_line_h(
     ensures { λ r. ⌜ (now (out .exit) ≡ put (now (out .entry)) at (lineH c (wayOf writes) n x)) × (r ≡ at + length (lineH c (wayOf writes) n x)) ⌝ }
 {
     let way_at = put_cycle(out, at, b'H', c, table);
-    let name_at = put_way(out, way_at, writes);
-    let value_at = put_name(out, name_at, n);
-    put_last_word(out, value_at, x, table)
+    if writes {
+        let name_at = put_bytes(out, way_at, b" WRITE");
+        return put_named_word(out, name_at, n, x, table);
+    }
+    let name_at = put_bytes(out, way_at, b" READ");
+    put_named_word(out, name_at, n, x, table)
 }
 
 // Lays an L or D line at a place and returns the place after it.

@@ -1,44 +1,40 @@
+-- `simulator::cycle::put_lines` meets its contract.
 use mathlib.Core.Path.{_∙_, ap}
 use native.Mathlib.Omega.{arith}
 use lib.ListN.{length-append}
+use borrow.Author.Needs.{needs}
 use Rattle.text.specs.Place.{put}
 use Rattle.executor.proofs.RegisterLaws.{kept-length}
 use Rattle.trace.specs.LogLines.{lineT}
 use Rattle.trace.proofs.LengthLaws.{length-T}
 use Rattle.text.proofs.PieceLaws.{more}
 use Rattle.simulator.proofs.OperandLaws.{line-of}
-use borrow.Author.Needs.{needs}
 use Rattle.simulator.proofs.cycle.put_lines.Statement.{statement}
 use Rattle.simulator.proofs.cycle.put_lines.Tie as tie
-use Rattle.simulator.proofs.cycle.put_lines.Reads as reads
-use Rattle.simulator.proofs.cycle.put_lines.Lts as lts
-use Rattle.simulator.proofs.io_lines.put_io_lines.Reads as put-io-lines-reads
-use Rattle.trace.proofs.log_lines.put_line_t.Reads as put-line-t-reads
 
--- src/cycle.rt:144:9
 put-line-t-requires : tie.Need-put-line-t-requires
-put-line-t-requires c κs = let a = c .before .before .args in
+put-line-t-requires c κs =
+    let a = c .before .before .args in
     let p = c .before .before .pre .0 in
     let room = rw length-append at (p .0) in
     let line = length-T (a .c .pc) (a .word) (a .regs .now) in
     (omega (arith, room, line, p .1 .0 .sixteen), (kept-length (p .1 .0), p .1 .1))
 
--- src/cycle.rt:145:5
 put-io-lines-requires : tie.Need-put-io-lines-requires
-put-io-lines-requires c κs = let a = c .before .before .before .before .before .before .args in
+put-io-lines-requires c κs =
+    let a = c .before .before .before .before .before .before .args in
     let p = c .before .before .before .before .before .before .pre .0 in
     let room = rw length-append at (p .0) in
     let line = length-T (a .c .pc) (a .word) (a .regs .now) in
     let t = c .before .before .before .put-line-t in
     (omega (arith, room, line, p .1 .0 .sixteen, t .ensures .1, t .kept), p .1 .1)
 
--- src/cycle.rt:128:1
 same-length : tie.Need-same-length
 same-length c = search needs
 
--- src/cycle.rt:128:1
 returns : tie.Need-returns
-returns c = let a = c .before .before .before .before .before .before .before .before .before .args in
+returns c =
+    let a = c .before .before .before .before .before .before .before .before .before .args in
     let p = c .before .before .before .before .before .before .before .before .before .pre .0 in
     let immediates = c .before .before .before .before .before .before .before .before .before .pre .1 in
     let t = c .before .before .before .before .before .before .put-line-t in

@@ -1,54 +1,49 @@
-use Prim.Native.Nat.{_/_, _≤_}
+-- `text::decimal::put_to_eight` meets its contract.
+use Prim.Native.Nat.{_/_}
 use mathlib.Core.Path.{_≡_, refl}
 use native.Mathlib.Omega.{arith}
-use Rattle.text.specs.Numerals.{digitCount}
+use borrow.Author.Needs.{needs}
 use Rattle.text.proofs.DecimalLaws.{count-hundreds, hundreds-laid}
 use Rattle.text.proofs.DecimalLaws.{count-thousands}
-use borrow.Author.Needs.{needs}
 use Rattle.text.proofs.decimal.put_to_eight.Statement.{statement}
 use Rattle.text.proofs.decimal.put_to_eight.Tie as tie
-use Rattle.text.proofs.decimal.put_to_eight.Reads as reads
-use Rattle.text.proofs.decimal.put_to_eight.Lts as lts
-use Rattle.text.proofs.decimal.put_decimal_pair.Reads as put-decimal-pair-reads
-use Rattle.text.proofs.decimal.put_to_four.Reads as put-to-four-reads
 
--- src/decimal.rt:81:9
 put-to-four-requires : tie.Need-put-to-four-requires
-put-to-four-requires c κs = let s = c .before .before in
+put-to-four-requires c κs =
+    let s = c .before .before in
     let more = count-thousands (s .args .v) (s .pre .0) in
     (omega arith, (omega arith, s .pre .1 .1 .1))
 
--- src/decimal.rt:82:5
 put-decimal-pair-requires : tie.Need-put-decimal-pair-requires
-put-decimal-pair-requires c κs = let s = c .before .before .before .before .before .before in
+put-decimal-pair-requires c κs =
+    let s = c .before .before .before .before .before .before in
     let more = count-thousands (s .args .v) (s .pre .0) in
     (omega arith, (omega arith, s .pre .1 .1 .1))
 
--- src/decimal.rt:83:27
 add-put-decimal-pair : tie.Need-add-put-decimal-pair
-add-put-decimal-pair c = let s = c .before .before .before .before .before .before .before .before .before .before in
+add-put-decimal-pair c =
+    let s = c .before .before .before .before .before .before .before .before .before .before in
     let more = count-thousands (s .args .v) (s .pre .0) in
     omega arith
 
--- src/decimal.rt:83:5
 put-decimal-pair-requires-2 : tie.Need-put-decimal-pair-requires-2
-put-decimal-pair-requires-2 c κs = let s = c .before .before .before .before .before .before .before .before .before .before in
+put-decimal-pair-requires-2 c κs =
+    let s = c .before .before .before .before .before .before .before .before .before .before in
     let more = count-thousands (s .args .v) (s .pre .0) in
     (omega arith, (omega arith, s .pre .1 .1 .1))
 
--- src/decimal.rt:84:5
 add-result : tie.Need-add-result
-add-result c = let s = c .before .before .before .before .before .before .before .before .before .before .before .before .before in
+add-result c =
+    let s = c .before .before .before .before .before .before .before .before .before .before .before .before .before in
     let more = count-thousands (s .args .v) (s .pre .0) in
     omega arith
 
--- src/decimal.rt:77:1
 same-length : tie.Need-same-length
 same-length c = search needs
 
--- src/decimal.rt:77:1
 returns : tie.Need-returns
-returns c = let s = c .before .before .before .before .before .before .before .before .before .before .before .before .before in
+returns c =
+    let s = c .before .before .before .before .before .before .before .before .before .before .before .before .before in
     let v = s .args .v in
     let more = count-thousands v (s .pre .0) in
     let last = count-hundreds v (omega arith) in

@@ -1,23 +1,18 @@
-use Rattle.text.proofs.HexWordLaws.{entry-digit}
+-- `text::hex_words::hex_digit` meets its contract.
 use borrow.Author.Needs.{needs}
+use Rattle.text.proofs.HexWordLaws.{entry-digit}
 use Rattle.text.proofs.hex_words.hex_digit.Statement.{statement}
 use Rattle.text.proofs.hex_words.hex_digit.Tie as tie
-use Rattle.text.proofs.hex_words.hex_digit.Reads as reads
-use Rattle.text.proofs.hex_words.hex_digit.Lts as lts
 
--- src/hex_words.rt:85:6
 mul-result : tie.Need-mul-result
 mul-result c = search needs
 
--- src/hex_words.rt:85:6
 element-copy-out-result : tie.Need-element-copy-out-result
 element-copy-out-result c = search needs
 
--- src/hex_words.rt:85:5
 cast-result : tie.Need-cast-result
 cast-result c = search needs
 
--- src/hex_words.rt:81:1
 returns : tie.Need-returns
 returns c = entry-digit (c .before .args .words .now) (c .before .args .n) (c .before .pre .1) (c .before .pre .0)
 

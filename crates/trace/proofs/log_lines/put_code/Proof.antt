@@ -1,42 +1,33 @@
+-- `trace::log_lines::put_code` meets its contract.
 use Prim.Native.Nat.{_+_}
 use mathlib.Core.Path.{_∙_, ap}
+use borrow.Author.Needs.{needs}
 use Rattle.text.specs.Place.{put}
 use Rattle.trace.proofs.LineLaws.{code-laid}
-use borrow.Author.Needs.{needs}
 use Rattle.trace.proofs.log_lines.put_code.Statement.{statement}
 use Rattle.trace.proofs.log_lines.put_code.Tie as tie
-use Rattle.trace.proofs.log_lines.put_code.Reads as reads
-use Rattle.trace.proofs.log_lines.put_code.Lts as lts
-use Rattle.text.proofs.hex_words.put_eight.Reads as put-eight-reads
-use Rattle.text.proofs.hex_words.put_hex_byte.Reads as put-hex-byte-reads
 
--- src/log_lines.rt:73:5
 put-hex-byte-requires : tie.Need-put-hex-byte-requires
 put-hex-byte-requires c κs = search needs
 
--- src/log_lines.rt:74:23
 add-put-hex-byte : tie.Need-add-put-hex-byte
 add-put-hex-byte c = search needs
 
--- src/log_lines.rt:74:5
 put-hex-byte-requires-2 : tie.Need-put-hex-byte-requires-2
 put-hex-byte-requires-2 c κs = search needs
 
--- src/log_lines.rt:75:20
 add-put-eight : tie.Need-add-put-eight
 add-put-eight c = search needs
 
--- src/log_lines.rt:75:5
 put-eight-requires : tie.Need-put-eight-requires
 put-eight-requires c κs = search needs
 
--- src/log_lines.rt:69:1
 same-length : tie.Need-same-length
 same-length c = search needs
 
--- src/log_lines.rt:69:1
 returns : tie.Need-returns
-returns c = let s = c .before .before .before .before .before .before .before .before .before .before .before .before .before in
+returns c =
+    let s = c .before .before .before .before .before .before .before .before .before .before .before .before .before in
     let a = s .args in
     code-laid (a .word) (a .at) (a .out .now) _ _ _ (c .before .before .before .before .before .before .before .before .before .before .put-hex-byte .ensures) (c .before .before .before .before .before .before .put-hex-byte2 .ensures)
     (c .before .before .put-eight .ensures ∙ ap (put _ (a .at + 4)) (s .pre .1 .1))

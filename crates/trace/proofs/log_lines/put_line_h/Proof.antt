@@ -1,47 +1,82 @@
 -- `trace::log_lines::put_line_h` meets its contract.
 use native.Mathlib.Omega.{arith}
 use borrow.Author.Needs.{needs}
-use Rattle.trace.specs.LogLines.{wayOf}
+use Rattle.text.specs.Bytes.{bytes}
 use Rattle.trace.proofs.LengthLaws.{length-H}
 use Rattle.trace.proofs.LineLaws.{line-h-laid}
 use Rattle.trace.proofs.log_lines.put_line_h.Statement.{statement}
 use Rattle.trace.proofs.log_lines.put_line_h.Tie as tie
 
 put-cycle-requires : tie.Need-put-cycle-requires
-put-cycle-requires c κs = let room = simp length-H at (c .before .before .pre .0) in (omega arith, c .before .before .pre .1)
+put-cycle-requires c κs =
+    let room = rw length-H at (c .before .before .pre .0) in (omega (arith, room), c .before .before .pre .1)
 
-put-way-requires : tie.Need-put-way-requires
-put-way-requires c κs = let room = simp length-H at (c .before .before .before .before .before .before .pre .0) in omega arith
+slice-aggregate-put-bytes : tie.Need-slice-aggregate-put-bytes
+slice-aggregate-put-bytes c = search needs
 
-put-name-requires : tie.Need-put-name-requires
-put-name-requires c κs = let room = simp length-H at (c .before .before .before .before .before .before .before .before .before .before .pre .0) in omega arith
+put-bytes-requires : tie.Need-put-bytes-requires
+put-bytes-requires c κs =
+    let s = c .before .before .before .before .before .before .before .before in
+    let room = rw (c .before .before .if1 .taken) at (rw length-H at (s .pre .0)) in
+    omega (arith, room, c .before .before .before .before .before .put-cycle .ensures .1)
 
-put-last-word-requires : tie.Need-put-last-word-requires
-put-last-word-requires c κs =
-    let room = simp length-H at (c .before .before .before .before .before .before .before .before .before .before .before .before .before .before .pre .0) in
-    (omega arith, c .before .before .before .before .before .before .before .before .before .before .before .before .before .before .pre .1)
+put-named-word-requires : tie.Need-put-named-word-requires
+put-named-word-requires c κs =
+    let s = c .before .before .before .before .before .before .before .before .before .before .before .before in
+    let room = rw (c .before .before .before .before .before .before .if1 .taken) at (rw length-H at (s .pre .0)) in
+    (omega (arith, room, c .before .before .before .before .before .before .before .before .before .put-cycle .ensures .1, c .before .before .before .put-bytes .ensures .1), s .pre .1)
 
 same-length : tie.Need-same-length
 same-length c = search needs
 
 returns : tie.Need-returns
 returns c =
-    let a = c .before .before .before .before .before .before .before .before .before .before .before .before .before .before .before .before .before .args in
-    let cycle = c .before .before .before .before .before .before .before .before .before .before .before .before .before .before .put-cycle .ensures in
-    let way = c .before .before .before .before .before .before .before .before .before .before .put-way .ensures in
-    let name = c .before .before .before .before .before .before .put-name .ensures in
-    let value = c .before .before .put-last-word .ensures in (
-      line-h-laid (a .c) (a .n) (a .x) (a .at) _ _ _ (wayOf (a .writes)) (a .out .now) _ _ _ _ (cycle .1) (way .1) (name .1) (cycle .0) (way .0) (name .0) (value .0),
-      rw length-H (omega arith),
-    )
+    let a = c .before .before .before .before .before .before .before .before .before .before .before .before .before .before .before .args in
+    let cycle = c .before .before .before .before .before .before .before .before .before .before .before .before .put-cycle .ensures in
+    let way = c .before .before .before .before .before .before .put-bytes .ensures in
+    let value = c .before .before .put-named-word .ensures in
+    rw (c .before .before .before .before .before .before .before .before .before .if1 .taken)
+    (line-h-laid (a .c) (a .n) (a .x) (a .at) _ _ (bytes "WRITE") (a .out .now) _ _ _ (cycle .1) (omega (arith, way .1)) (cycle .0) (way .0) (value .0), rw length-H (omega (arith, cycle .1, way .1, value .1)))
+
+slice-aggregate-put-bytes-2 : tie.Need-slice-aggregate-put-bytes-2
+slice-aggregate-put-bytes-2 c = search needs
+
+put-bytes-requires-2 : tie.Need-put-bytes-requires-2
+put-bytes-requires-2 c κs =
+    let s = c .before .before .before .before .before .before .before .before in
+    let room = rw (c .before .before .if1 .left) at (rw length-H at (s .pre .0)) in
+    omega (arith, room, c .before .before .before .before .before .put-cycle .ensures .1)
+
+put-named-word-requires-2 : tie.Need-put-named-word-requires-2
+put-named-word-requires-2 c κs =
+    let s = c .before .before .before .before .before .before .before .before .before .before .before .before in
+    let room = rw (c .before .before .before .before .before .before .if1 .left) at (rw length-H at (s .pre .0)) in
+    (omega (arith, room, c .before .before .before .before .before .before .before .before .before .put-cycle .ensures .1, c .before .before .before .put-bytes2 .ensures .1), s .pre .1)
+
+same-length-2 : tie.Need-same-length-2
+same-length-2 c = search needs
+
+returns-2 : tie.Need-returns-2
+returns-2 c =
+    let a = c .before .before .before .before .before .before .before .before .before .before .before .before .before .before .before .args in
+    let cycle = c .before .before .before .before .before .before .before .before .before .before .before .before .put-cycle .ensures in
+    let way = c .before .before .before .before .before .before .put-bytes2 .ensures in
+    let value = c .before .before .put-named-word2 .ensures in
+    rw (c .before .before .before .before .before .before .before .before .before .if1 .left)
+    (line-h-laid (a .c) (a .n) (a .x) (a .at) _ _ (bytes "READ") (a .out .now) _ _ _ (cycle .1) (omega (arith, way .1)) (cycle .0) (way .0) (value .0), rw length-H (omega (arith, cycle .1, way .1, value .1)))
 
 pub put-line-h-spec : {M : Type 1} → statement M
 put-line-h-spec =
     tie.close
     (tie.spec
     put-cycle-requires
-    put-way-requires
-    put-name-requires
-    put-last-word-requires
+    slice-aggregate-put-bytes
+    put-bytes-requires
+    put-named-word-requires
     same-length
-    returns)
+    returns
+    slice-aggregate-put-bytes-2
+    put-bytes-requires-2
+    put-named-word-requires-2
+    same-length-2
+    returns-2)

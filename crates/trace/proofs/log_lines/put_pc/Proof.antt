@@ -1,46 +1,36 @@
+-- `trace::log_lines::put_pc` meets its contract.
 use mathlib.Core.Path.{_∙_}
 use native.Mathlib.Omega.{arith}
 use lib.ListN.{length-set}
-use Rattle.trace.proofs.LineLaws.{pc-laid}
 use borrow.Author.Needs.{needs}
+use Rattle.trace.proofs.LineLaws.{pc-laid}
 use Rattle.trace.proofs.log_lines.put_pc.Statement.{statement}
 use Rattle.trace.proofs.log_lines.put_pc.Tie as tie
-use Rattle.trace.proofs.log_lines.put_pc.Reads as reads
-use Rattle.trace.proofs.log_lines.put_pc.Lts as lts
-use Rattle.text.proofs.hex_words.hex_digit.Reads as hex-digit-reads
-use Rattle.text.proofs.hex_words.put_hex_byte.Reads as put-hex-byte-reads
 
--- src/log_lines.rt:64:25
 cast-hex-digit : tie.Need-cast-hex-digit
 cast-hex-digit c = search needs
 
--- src/log_lines.rt:64:15
 hex-digit-requires : tie.Need-hex-digit-requires
 hex-digit-requires c κs = search needs
 
--- src/log_lines.rt:64:5
 slice-write-out : tie.Need-slice-write-out
 slice-write-out c = search needs
 
--- src/log_lines.rt:65:23
 add-put-hex-byte : tie.Need-add-put-hex-byte
 add-put-hex-byte c = search needs
 
--- src/log_lines.rt:65:31
 cast-put-hex-byte : tie.Need-cast-put-hex-byte
 cast-put-hex-byte c = search needs
 
--- src/log_lines.rt:65:5
 put-hex-byte-requires : tie.Need-put-hex-byte-requires
 put-hex-byte-requires c κs = (simp length-set (omega arith), (omega arith, c .before .before .before .pre .1))
 
--- src/log_lines.rt:60:1
 same-length : tie.Need-same-length
 same-length c = c .before .before .put-hex-byte .kept .0 ∙ simp length-set
 
--- src/log_lines.rt:60:1
 returns : tie.Need-returns
-returns c = let a = c .before .before .before .before .before .before .args in
+returns c =
+    let a = c .before .before .before .before .before .before .args in
     let first = c .before .before .before .before .hex-digit in
     pc-laid (a .pc) (first .result) (a .at) (a .out .now) _ (first .ensures) (c .before .before .put-hex-byte .ensures)
 

@@ -1,6 +1,5 @@
 // The command `asm`: a program into its two memory files.
 use crate::instructions::count_instructions;
-use crate::names::has_same;
 use assembler::Assembled;
 use assembler::assemble;
 use console::LINE;
@@ -8,10 +7,10 @@ use console::append;
 use console::append_number;
 use console::say;
 use memories::Count;
+use memories::has_same;
 use memories::keep_at;
 use memories::read_front;
 use memories::refuse_at;
-use memories::say_at;
 use memories::stage_data;
 use memories::stage_image;
 ghost use Prim.Native.Nat.{_+_, _^_, _≤_, _<_};
@@ -26,11 +25,7 @@ const FRONT: usize = 262_145;
 pub fn assemble_file(first: usize)
     requires { ⌜ first + 3 < 2 ^ 64 ⌝ }
 {
-    if has_same(first, first + 1, first + 2) {
-        say_at(
-            first,
-            b": two of the three files have the same name; nothing is written\n",
-        );
+    if has_same(first, 1, 3) {
         return;
     }
     let mut text = [0u8; FRONT];

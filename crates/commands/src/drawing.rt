@@ -1,19 +1,27 @@
 // The command `picture`: a frame as a picture.
+use memories::has_same;
 use memories::keep_at;
 use memories::load_frame;
 use memories::say_at;
 use memories::stage_bytes;
 use outputs::put_picture;
+ghost use Prim.Native.Nat.{_+_, _^_, _<_};
 
 // Room for a picture: its head and 65,536 pixels.
 const ROOM: usize = 65_551;
 
-// Writes the frame that one argument names as a picture that another names.
-pub fn draw_frame(monitor: usize, picture: usize) {
+// Writes the frame that one argument names as a picture that the next names.
+pub fn draw_frame(monitor: usize)
+    requires { ⌜ monitor + 2 < 2 ^ 64 ⌝ }
+{
+    if has_same(monitor, 1, 2) {
+        return;
+    }
     let mut frame = [0u8; 65536];
     if !load_frame(monitor, &mut frame) {
         return;
     }
+    let picture = monitor + 1;
     let mut text = [0u8; ROOM];
     let n = put_picture(&frame, &mut text);
     if keep_at(picture, stage_bytes(picture, &text[..n])) {

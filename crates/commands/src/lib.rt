@@ -3,11 +3,9 @@ mod assembling;
 mod drawing;
 mod instructions;
 mod listing;
-mod names;
 mod showing;
 
 pub use assembling::assemble_file;
 pub use drawing::draw_frame;
 pub use listing::list_file;
-pub use names::are_same;
 pub use showing::show_record;

@@ -1,4 +1,4 @@
-# devices: uses each device once, and the interrupts of the timer and of irq2.
+# devices: uses each device, the interrupts of the timer and of irq2, a disk command of each kind, and ends with a fault.
 
         out $zero, $zero, $imm1, $imm2, 6, handler   # irqhandler
         out $zero, $zero, $imm1, $imm2, 0, 1         # irq0enable
@@ -12,8 +12,8 @@
         out $zero, $zero, $imm1, $imm2, 16, 0x200    # diskbuffer
         out $zero, $zero, $imm1, $imm2, 14, 1        # diskcmd: read
         lw $t0, $zero, $imm1, $zero, 0x201, 0        # a word of the sector
-        add $t1, $imm1, $zero, $zero, 128, 0
-        mac $t1, $t1, $imm1, $t1, 256, 0             # the pixel in the middle
+        add $t1, $imm1, $zero, $zero, 3, 0
+        mac $t1, $t1, $imm1, $imm2, 256, 200         # the pixel of line 3, column 200
         out $zero, $zero, $imm1, $t1, 20, 0          # monitoraddr
         out $zero, $zero, $imm1, $imm2, 21, -1       # monitordata: low 8 bits
         out $zero, $zero, $imm1, $imm2, 22, 1        # monitorcmd
@@ -23,6 +23,13 @@
 loop:   add $s2, $s2, $imm1, $zero, 1, 0
         out $zero, $zero, $imm1, $s2, 10, 0          # display7seg
         blt $zero, $s2, $imm1, $imm2, 6, loop
+        out $zero, $zero, $imm1, $imm2, 8, 1000      # clks
+        out $zero, $zero, $imm1, $imm2, 13, 200      # timermax: rarer
+busy:   in $t2, $zero, $imm1, $zero, 17, 0           # diskstatus
+        bne $zero, $t2, $zero, $imm1, busy, 0
+        out $zero, $zero, $imm1, $imm2, 15, 5        # disksector
+        out $zero, $zero, $imm1, $imm2, 16, 0x2F0    # diskbuffer, with the word at 0x300
+        out $zero, $zero, $imm1, $imm2, 14, 2        # diskcmd: write
         lw $t2, $zero, $imm1, $zero, -1, 0           # address 0xFFFFFFFF: a fault
         halt $zero, $zero, $zero, $zero, 0, 0
 

@@ -1,7 +1,7 @@
 // Files compared.
-use commands::are_same;
 use console::say;
 use memories::Count;
+use memories::are_same;
 use memories::read_front;
 ghost use Rattle.io.specs.Counts.{Counts};
 
@@ -14,6 +14,10 @@ pub fn compare_files(i: usize, j: usize) {
     let mut second = [0u8; ROOM];
     let n = length_of(i, &mut first);
     let m = length_of(j, &mut second);
+    if n == ROOM {
+        say(b"too long\n");
+        return;
+    }
     if are_same(&first[..n], &second[..m]) {
         say(b"same\n");
     } else {

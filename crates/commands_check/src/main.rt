@@ -61,7 +61,7 @@ fn run_step(key: u8, i: usize)
         b'i' => simulate_step(i),
         b'r' => resume(i + 1),
         b'h' => show_record(i + 1),
-        b'p' => draw_frame(i + 1, i + 2),
+        b'p' => draw_frame(i + 1),
         b'e' => compare_files(i + 1, i + 2),
         _ => say_refusals(),
     }

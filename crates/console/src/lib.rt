@@ -14,13 +14,13 @@ mod write;
 
 pub use arguments::are_names;
 pub use more::begin_more;
-pub use more::is_missing;
 pub use output::LINE;
 pub use output::append;
 pub use output::append_number;
 pub use output::say;
 pub use output::say_of;
 pub use output::tell;
+pub use path::is_missing;
 pub use read::read_file;
 pub use refusal::say_refusal;
 pub use standard::hold_standard;

@@ -10,16 +10,6 @@ use crate::write::not_written;
 // The most reads of a file that is copied.
 const MOST_READS: u64 = 0xFFFF_FFFF_FFFF_FFFF;
 
-// Whether there is nothing at a path.
-pub fn is_missing(path: &[u8]) -> bool {
-    let fd = os::open_read(path);
-    if fd < 0 {
-        return os::errno() == libc::ENOENT;
-    }
-    libc::close(fd);
-    false
-}
-
 // Begins a file that has what the old one has, where there is one, and is open to have more; or says that it is not written.
 pub fn begin_more(path: &[u8]) -> Writing {
     match old_file(path) {

@@ -13,6 +13,9 @@ pub enum Old {
 
 // Looks at what stands at a path. Only files, and not devices or pipes, can be brought to the disk.
 pub fn old_file(path: &[u8]) -> Old {
+    if is_link(path) {
+        return Old::Other;
+    }
     let fd = os::open_append(path);
     if fd < 0 {
         if os::errno() == libc::ENOENT {
@@ -23,9 +26,6 @@ pub fn old_file(path: &[u8]) -> Old {
     let status = libc::fsync(fd);
     libc::close(fd);
     if status < 0 {
-        return Old::Other;
-    }
-    if is_link(path) {
         return Old::Other;
     }
     Old::File

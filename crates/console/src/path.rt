@@ -15,6 +15,20 @@ pub fn is_link(path: &[u8]) -> bool {
     0 <= libc::readlink(&ended, &mut target)
 }
 
+// Whether there is nothing at a path. It is not opened by this.
+pub fn is_missing(path: &[u8]) -> bool {
+    if PATH_MAX <= path.len() {
+        return false;
+    }
+    let mut ended = [0u8; PATH_MAX];
+    put_bytes(&mut ended, 0, path);
+    ended[PATH_MAX - 1] = 0;
+    if libc::access(&ended, libc::F_OK) < 0 {
+        return os::errno() == libc::ENOENT;
+    }
+    false
+}
+
 // Lays a path and `.new` at the front and returns the length of both; 0 where they are too long for a path.
 pub fn put_new_path(path: &[u8], out: &mut [u8]) -> usize
     ensures { λ r. ⌜ Counts r (now (out .exit)) ⌝ }

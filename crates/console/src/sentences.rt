@@ -65,9 +65,13 @@ fn put_label_and_file_sentence(out: &mut [u8], at: usize, number: u32) -> usize
         9 => put_bytes(
             out,
             at,
-            b"the line is no word (12 hexadecimal digits for an instruction, 8 for data and the disk, 2 for the frame)",
+            b"the line is no word (12 hexadecimal digits for an instruction, 8 for data and the disk, 2 for the frame; no CR)",
         ),
-        _ => put_bytes(out, at, b"the file has more lines than there are words"),
+        _ => put_bytes(
+            out,
+            at,
+            b"the file has too many lines (most: 4096 words, 16384 of the disk, 65536 pixels, 16384 cycles)",
+        ),
     }
 }
 

@@ -7,6 +7,7 @@ mod cycles;
 mod front;
 mod load;
 mod named;
+mod names;
 mod records;
 mod stage;
 
@@ -26,6 +27,9 @@ pub use named::end_at;
 pub use named::is_missing_at;
 pub use named::keep_at;
 pub use named::more_at;
+pub use names::are_same;
+pub use names::has_same;
+pub use names::is_device_at;
 pub use records::fresh;
 pub use records::load_record;
 pub use records::stage_record;

@@ -13,8 +13,16 @@ mod registers;
 mod status;
 
 pub use cycles::put_cycles;
-pub use log::take_lines;
+pub use log::split_log;
 pub use picture::put_picture;
 pub use reason::put_reason;
 pub use record::put_record;
 pub use registers::put_registers;
+
+// How many bytes each of the four texts has that a log is split into.
+pub struct Split {
+    pub trace: usize,
+    pub hwregtrace: usize,
+    pub leds: usize,
+    pub display7seg: usize,
+}

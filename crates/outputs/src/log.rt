@@ -1,4 +1,5 @@
 // The lines of a log, by their letter.
+use crate::Split;
 use text::lines::LF;
 use text::lines::line_end;
 use text::place::put_bytes;
@@ -6,23 +7,39 @@ ghost use mathlib.Core.Path.{_≡_};
 ghost use Prim.Native.Nat.{_+_, _≤_};
 ghost use lib.ListN.{length};
 ghost use Rattle.text.specs.Place.{put};
-ghost use Rattle.io.specs.Counts.{Counts};
-ghost use Rattle.outputs.specs.LogFiles.{linesWith, lineWith};
+ghost use Rattle.outputs.specs.LogFiles.{letterT, letterH, letterL, letterD, lineWith, Taken};
 
-// Lays the lines of a log that begin with a letter, each without the letter and the blank after it, at the front and returns how many bytes they
-// have.
-pub fn take_lines(log: &[u8], letter: u8, out: &mut [u8]) -> usize
-    requires { ⌜ length (now log) ≤ length (now out) ⌝ }
-    ensures { λ r. ⌜ (now (out .exit) ≡ put (now (out .entry)) 0 (linesWith letter (now (log .entry)))) × (r ≡ length (linesWith letter (now (log .entry)))) × (r ≤ length (now (log .entry))) × Counts r (now (out .exit)) ⌝ }
+// Splits a log: lays the lines that begin with T, H, L and D, each without the letter and the blank after it, at the fronts of four texts, and
+// returns how many bytes each has.
+pub fn split_log(
+    log: &[u8],
+    trace: &mut [u8],
+    hwregtrace: &mut [u8],
+    leds: &mut [u8],
+    display7seg: &mut [u8],
+) -> Split
+    requires { ⌜ (length (now log) ≤ length (now trace)) × (length (now log) ≤ length (now hwregtrace)) × (length (now log) ≤ length (now leds)) × (length (now log) ≤ length (now display7seg)) ⌝ }
+    ensures { λ r. ⌜ Taken letterT (now (log .entry)) (now (trace .entry)) (r .trace) (now (trace .exit)) × Taken letterH (now (log .entry)) (now (hwregtrace .entry)) (r .hwregtrace) (now (hwregtrace .exit)) × Taken letterL (now (log .entry)) (now (leds .entry)) (r .leds) (now (leds .exit)) × Taken letterD (now (log .entry)) (now (display7seg .entry)) (r .display7seg) (now (display7seg .exit)) ⌝ }
 {
-    let mut at = 0;
+    let mut t = 0;
+    let mut h = 0;
+    let mut l = 0;
+    let mut d = 0;
     let mut from = 0;
     while from < log.len() {
         let end = line_end(log, from);
-        at = put_taken(&log[from..end], letter, out, at);
+        t = put_taken(&log[from..end], b'T', trace, t);
+        h = put_taken(&log[from..end], b'H', hwregtrace, h);
+        l = put_taken(&log[from..end], b'L', leds, l);
+        d = put_taken(&log[from..end], b'D', display7seg, d);
         from = end + 1;
     }
-    at
+    Split {
+        trace: t,
+        hwregtrace: h,
+        leds: l,
+        display7seg: d,
+    }
 }
 
 // Lays a line that begins with the letter, without the letter and the blank after it, and an LF at a place and returns the place after them; of

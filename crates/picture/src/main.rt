@@ -13,7 +13,7 @@ fn main() {
         return;
     }
     if are_names(1, 2) {
-        draw_frame(1, 2);
+        draw_frame(1);
     }
 }
 

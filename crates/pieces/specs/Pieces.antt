@@ -46,5 +46,5 @@ pub record Ends (image irq2 : List ℕ) (budget : ℕ) (m : Machine) (r : RunEnd
   pub machine : n ≡ machineAfter image irq2 (r .cycles) m
   pub within : r .cycles ≤ budget
   pub sound : Sound (n .core) (n .regs) (n .io)
-  -- Where the whole log is written, the machine is the one after all cycles that the budget allows and the plain machine makes.
+  -- Where it answers that each piece of the log was written, the machine is the one after all cycles that the budget allows and the plain machine makes.
   pub ends : r .written ≡ true → n ≡ machineAfter image irq2 budget m

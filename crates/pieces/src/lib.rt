@@ -22,7 +22,8 @@ pub enum Sink {
     Split(i32, i32, i32, i32),
 }
 
-// How a run whose log goes out in pieces ended: the record, the cycles that it may have made, and whether all lines of its log are written.
+// How a run whose log goes out in pieces ended: the record, a number of cycles of the plain machine that leads to it, and whether each piece of its
+// log was written.
 pub struct RunEnd {
     pub state: Record,
     pub cycles: u64,

@@ -61,14 +61,13 @@ pub fn run_on(
     ensures { λ r. ⌜ Ends (now (image .entry)) (now (irq2 .entry)) budget (machineOf start (now (memory .entry)) (now (disk .entry)) (now (frame .entry))) r (machineOf (r .state) (now (memory .exit)) (now (disk .exit)) (now (frame .exit))) ⌝ }
 {
     let mut log = [0u8; 65536];
-    let mut part = [0u8; 65536];
     let mut state = start;
     let mut left = budget;
     loop {
         let piece = run_piece(state, image, memory, disk, frame, irq2, left, &mut log);
         let bytes = piece.bytes;
         let answer = piece.answer;
-        let is_sent = send(&log[..bytes], to, &mut part);
+        let is_sent = send(&log[..bytes], to);
         state = piece.state;
         left -= piece.cycles;
         if !is_sent {

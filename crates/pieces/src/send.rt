@@ -1,14 +1,14 @@
 // A piece of a log, written to where the log goes.
 use crate::Sink;
-use outputs::take_lines;
+use outputs::split_log;
 ghost use Prim.Native.Nat.{_≤_};
 ghost use lib.ListN.{length};
 
-// Writes a piece of a log and answers whether all of it is written; standard error tells why not. The lent part is what it works with.
-pub fn send(log: &[u8], to: Sink, part: &mut [u8]) -> bool
-    requires { ⌜ length (now log) ≤ length (now part) ⌝ }
+// Writes a piece of a log and answers whether all of it is written; standard error tells why not.
+pub fn send(log: &[u8], to: Sink) -> bool
+    requires { ⌜ length (now log) ≤ 65536 ⌝ }
 {
-    if write_piece(log, to, part) {
+    if write_piece(log, to) {
         return true;
     }
     os::fail(b"the log");
@@ -16,44 +16,34 @@ pub fn send(log: &[u8], to: Sink, part: &mut [u8]) -> bool
 }
 
 // Writes a piece of a log to where the log goes.
-fn write_piece(log: &[u8], to: Sink, part: &mut [u8]) -> bool
-    requires { ⌜ length (now log) ≤ length (now part) ⌝ }
+fn write_piece(log: &[u8], to: Sink) -> bool
+    requires { ⌜ length (now log) ≤ 65536 ⌝ }
 {
     match to {
         Sink::Whole(fd) => io::write_all(fd, log),
         Sink::Split(trace, hwregtrace, leds, display7seg) => {
-            send_split(log, trace, hwregtrace, leds, display7seg, part)
+            write_split(log, trace, hwregtrace, leds, display7seg)
         }
     }
 }
 
-// Writes the lines T, H, L and D.
-fn send_split(
-    log: &[u8],
-    trace: i32,
-    hwregtrace: i32,
-    leds: i32,
-    display7seg: i32,
-    part: &mut [u8],
-) -> bool
-    requires { ⌜ length (now log) ≤ length (now part) ⌝ }
+// Writes the lines T, H, L and D, without their letters, to a file each.
+fn write_split(log: &[u8], trace: i32, hwregtrace: i32, leds: i32, display7seg: i32) -> bool
+    requires { ⌜ length (now log) ≤ 65536 ⌝ }
 {
-    if !send_lines(log, b'T', trace, part) {
+    let mut t = [0u8; 65536];
+    let mut h = [0u8; 65536];
+    let mut l = [0u8; 65536];
+    let mut d = [0u8; 65536];
+    let n = split_log(log, &mut t, &mut h, &mut l, &mut d);
+    if !io::write_all(trace, &t[..n.trace]) {
         return false;
     }
-    if !send_lines(log, b'H', hwregtrace, part) {
+    if !io::write_all(hwregtrace, &h[..n.hwregtrace]) {
         return false;
     }
-    if !send_lines(log, b'L', leds, part) {
+    if !io::write_all(leds, &l[..n.leds]) {
         return false;
     }
-    send_lines(log, b'D', display7seg, part)
-}
-
-// Writes the lines that begin with a letter, without it.
-fn send_lines(log: &[u8], letter: u8, fd: i32, part: &mut [u8]) -> bool
-    requires { ⌜ length (now log) ≤ length (now part) ⌝ }
-{
-    let n = take_lines(log, letter, part);
-    io::write_all(fd, &part[..n])
+    io::write_all(display7seg, &d[..n.display7seg])
 }

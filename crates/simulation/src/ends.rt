@@ -9,35 +9,49 @@ use outputs::put_cycles;
 use outputs::put_registers;
 ghost use Prim.Native.Nat.{_+_, _^_, _<_};
 
-// Writes them: the 5th, 6th, 9th, 12th, 13th and 14th of the fourteen.
+// Writes them, the 5th, 6th, 9th, 12th, 13th and 14th of the fourteen, and answers whether all are written.
 pub fn write_ends(
     first: usize,
     state: Record,
     memory: &[u32; 4096],
     disk: &[u32; 16384],
     frame: &[u8; 65536],
-)
+) -> bool
     requires { ⌜ first + 14 < 2 ^ 64 ⌝ }
 {
-    keep_at(first + 4, stage_data(first + 4, memory));
+    let mut is_whole = keep_at(first + 4, stage_data(first + 4, memory));
     let regs = state.regs;
-    write_registers(first + 5, regs);
-    write_cycles(first + 8, state.core.age);
-    keep_at(first + 11, stage_disk(first + 11, disk));
-    keep_at(first + 12, stage_frame(first + 12, frame));
-    keep_at(first + 13, stage_bytes(first + 13, frame));
+    is_whole = both(is_whole, write_registers(first + 5, regs));
+    is_whole = both(is_whole, write_cycles(first + 8, state.core.age));
+    is_whole = both(is_whole, keep_at(first + 11, stage_disk(first + 11, disk)));
+    is_whole = both(
+        is_whole,
+        keep_at(first + 12, stage_frame(first + 12, frame)),
+    );
+    both(
+        is_whole,
+        keep_at(first + 13, stage_bytes(first + 13, frame)),
+    )
+}
+
+// Whether both are so.
+pub fn both(a: bool, b: bool) -> bool {
+    if a {
+        return b;
+    }
+    false
 }
 
 // Writes R3 to R15.
-fn write_registers(i: usize, regs: [u32; 13]) {
+fn write_registers(i: usize, regs: [u32; 13]) -> bool {
     let mut text = [0u8; 117];
     let n = put_registers(&regs, &mut text);
-    keep_at(i, stage_bytes(i, &text[..n]));
+    keep_at(i, stage_bytes(i, &text[..n]))
 }
 
 // Writes the number of cycles.
-fn write_cycles(i: usize, age: u64) {
+fn write_cycles(i: usize, age: u64) -> bool {
     let mut text = [0u8; 21];
     let n = put_cycles(age, &mut text);
-    keep_at(i, stage_bytes(i, &text[..n]));
+    keep_at(i, stage_bytes(i, &text[..n]))
 }

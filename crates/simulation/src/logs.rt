@@ -1,5 +1,6 @@
 // The files that the lines of a log go to: the 7th, 8th, 10th and 11th of the fourteen.
 use crate::LogFiles;
+use crate::ends::both;
 use memories::abandon_at;
 use memories::begin_at;
 use memories::end_at;
@@ -46,12 +47,18 @@ pub fn abandon_logs(first: usize, logs: LogFiles)
     abandon_at(first + 10, logs.display7seg);
 }
 
-// Closes them and puts them into their places.
-pub fn keep_logs(first: usize, logs: LogFiles)
+// Closes them and puts them into their places; answers whether all are there.
+pub fn keep_logs(first: usize, logs: LogFiles) -> bool
     requires { ⌜ first + 14 < 2 ^ 64 ⌝ }
 {
-    keep_at(first + 6, end_at(first + 6, logs.trace));
-    keep_at(first + 7, end_at(first + 7, logs.hwregtrace));
-    keep_at(first + 9, end_at(first + 9, logs.leds));
-    keep_at(first + 10, end_at(first + 10, logs.display7seg));
+    let mut is_whole = keep_at(first + 6, end_at(first + 6, logs.trace));
+    is_whole = both(
+        is_whole,
+        keep_at(first + 7, end_at(first + 7, logs.hwregtrace)),
+    );
+    is_whole = both(is_whole, keep_at(first + 9, end_at(first + 9, logs.leds)));
+    both(
+        is_whole,
+        keep_at(first + 10, end_at(first + 10, logs.display7seg)),
+    )
 }

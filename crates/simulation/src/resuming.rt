@@ -1,6 +1,7 @@
 // The command `resume`: a run that goes on where another stopped.
 use crate::outcome::say_outcome;
 use crate::outcome::say_unwritten;
+use crate::start::is_astray;
 use crate::start::start_frame;
 use crate::start::start_record;
 use crate::writing_back::write_back;
@@ -8,6 +9,7 @@ use machine::Record;
 use memories::Count;
 use memories::abandon_at;
 use memories::end_at;
+use memories::has_same;
 use memories::is_missing_at;
 use memories::load_data;
 use memories::load_disk;
@@ -28,6 +30,9 @@ ghost use Rattle.machine.specs.Soundness.{Sound};
 pub fn resume(first: usize)
     requires { ⌜ first + 8 < 2 ^ 64 ⌝ }
 {
+    if has_same(first, 1, 8) {
+        return;
+    }
     if let Count::Of(budget) = read_budget(first + 6) {
         let mut image = [0u64; 4096];
         let mut cycles = [0u64; 16384];
@@ -54,6 +59,9 @@ fn resume_image(first: usize, image: &[u64; 4096], irq2: &[u64], budget: u64)
         return;
     }
     let is_fresh = is_missing_at(first + 4);
+    if is_astray(first + 7, is_fresh) {
+        return;
+    }
     if !start_frame(first + 3, is_fresh, &mut frame) {
         return;
     }

@@ -2,10 +2,30 @@
 use console::say;
 use memories::RecordRead;
 use memories::fresh;
+use memories::is_device_at;
 use memories::is_missing_at;
 use memories::load_frame;
 use memories::load_record;
+use memories::say_at;
 ghost use Rattle.machine.specs.Soundness.{Sound};
+
+// Whether a run that starts fresh would go on with a log that is there, as with a record's name that is mistaken; says so.
+pub fn is_astray(log: usize, is_fresh: bool) -> bool {
+    if !is_fresh {
+        return false;
+    }
+    if is_missing_at(log) {
+        return false;
+    }
+    if is_device_at(log) {
+        return false;
+    }
+    say_at(
+        log,
+        b" is there, but no saved record: a run that starts fresh wants a new log\n",
+    );
+    true
+}
 
 // The record that an argument names; the fresh one where there is none, as is said.
 pub fn start_record(i: usize, is_fresh: bool) -> RecordRead

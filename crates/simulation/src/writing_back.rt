@@ -54,21 +54,22 @@ fn are_staged(a: Writing, b: Writing, c: Writing, d: Writing, e: Writing) -> boo
     0 <= e.fd
 }
 
-// Puts the log, the memories and the record into their places, up to the first that can't be.
+// Puts the log, the memories and the record into their places, up to the first that can't be; those after it are removed.
 fn keep_all(first: usize, log: Writing, d: Writing, k: Writing, f: Writing, r: Writing) -> bool
     requires { ⌜ first + 8 < 2 ^ 64 ⌝ }
 {
-    if !keep_at(first + 7, log) {
-        return false;
+    let mut is_kept = keep_at(first + 7, log);
+    is_kept = keep_or_drop(first + 1, d, is_kept);
+    is_kept = keep_or_drop(first + 2, k, is_kept);
+    is_kept = keep_or_drop(first + 3, f, is_kept);
+    keep_or_drop(first + 4, r, is_kept)
+}
+
+// Puts a file into its place, or removes it.
+fn keep_or_drop(i: usize, w: Writing, is_wanted: bool) -> bool {
+    if is_wanted {
+        return keep_at(i, w);
     }
-    if !keep_at(first + 1, d) {
-        return false;
-    }
-    if !keep_at(first + 2, k) {
-        return false;
-    }
-    if !keep_at(first + 3, f) {
-        return false;
-    }
-    keep_at(first + 4, r)
+    drop_at(i, w);
+    false
 }

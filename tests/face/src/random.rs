@@ -64,9 +64,9 @@ impl Random {
     }
 }
 
-/// Makes a test's turns, each with its seed: as many as TURNS says, or `usual`; from SEED on, if it is given. A turn that fails says how to repeat it.
+/// Makes a test's turns, each with its seed: as many as TURNS says, or `usual` without it; from SEED on, if it is given. A turn that fails says how to repeat it.
 pub fn turns(usual: u64, name: &str, turn: impl Fn(u64) + std::panic::RefUnwindSafe) {
-    let number = |key: &str, else_: u64| std::env::var(key).ok().map_or(else_, |v| v.parse().expect("a number"));
+    let number = |key: &str, else_: u64| std::env::var(key).ok().filter(|v| !v.is_empty()).map_or(else_, |v| v.parse().expect("a number"));
     let (first, count) = (number("SEED", 1), number("TURNS", usual));
     for seed in first..first + count {
         if let Err(failure) = std::panic::catch_unwind(|| turn(seed)) {

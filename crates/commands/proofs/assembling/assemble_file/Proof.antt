@@ -3,20 +3,8 @@ use borrow.Author.Needs.{needs}
 use Rattle.commands.proofs.assembling.assemble_file.Statement.{statement}
 use Rattle.commands.proofs.assembling.assemble_file.Tie as tie
 
-add-has-same : tie.Need-add-has-same
-add-has-same c = search needs
-
-add-has-same-2 : tie.Need-add-has-same-2
-add-has-same-2 c = search needs
-
 has-same-requires : tie.Need-has-same-requires
 has-same-requires c κs = search needs
-
-slice-aggregate-say-at : tie.Need-slice-aggregate-say-at
-slice-aggregate-say-at c = search needs
-
-say-at-requires : tie.Need-say-at-requires
-say-at-requires c κs = search needs
 
 returns : tie.Need-returns
 returns c = search needs
@@ -52,11 +40,7 @@ pub assemble-file-spec : {M : Type 1} → statement M
 assemble-file-spec =
     tie.close
     (tie.spec
-    add-has-same
-    add-has-same-2
     has-same-requires
-    slice-aggregate-say-at
-    say-at-requires
     returns
     slice-aggregate-read-front
     read-front-requires

@@ -28,8 +28,20 @@ write-ends-requires c κs = search needs
 say-outcome-requires : tie.Need-say-outcome-requires
 say-outcome-requires c κs = search needs
 
+both-requires : tie.Need-both-requires
+both-requires c κs = search needs
+
+slice-aggregate-say : tie.Need-slice-aggregate-say
+slice-aggregate-say c = search needs
+
+say-requires : tie.Need-say-requires
+say-requires c κs = search needs
+
 returns-2 : tie.Need-returns-2
 returns-2 c = search needs
+
+returns-3 : tie.Need-returns-3
+returns-3 c = search needs
 
 pub run-split-spec : {M : Type 1} → statement M
 run-split-spec =
@@ -43,4 +55,8 @@ run-split-spec =
     keep-logs-requires
     write-ends-requires
     say-outcome-requires
-    returns-2)
+    both-requires
+    slice-aggregate-say
+    say-requires
+    returns-2
+    returns-3)

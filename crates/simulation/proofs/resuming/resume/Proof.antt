@@ -5,6 +5,12 @@ use borrow.Author.Needs.{needs}
 use Rattle.simulation.proofs.resuming.resume.Statement.{statement}
 use Rattle.simulation.proofs.resuming.resume.Tie as tie
 
+has-same-requires : tie.Need-has-same-requires
+has-same-requires c κs = search needs
+
+returns : tie.Need-returns
+returns c = search needs
+
 add-read-budget : tie.Need-add-read-budget
 add-read-budget c = search needs
 
@@ -20,8 +26,8 @@ slice-aggregate-load-image c = search needs
 load-image-requires : tie.Need-load-image-requires
 load-image-requires c κs = search needs
 
-returns : tie.Need-returns
-returns c = search needs
+returns-2 : tie.Need-returns-2
+returns-2 c = search needs
 
 add-load-irq2 : tie.Need-add-load-irq2
 add-load-irq2 c = search needs
@@ -42,7 +48,7 @@ slice-aggregate-resume-image : tie.Need-slice-aggregate-resume-image
 slice-aggregate-resume-image c = let got = rw (c .before .before .before .n .given .1) at (c .before .before .before .before .before .before .load-irq2 .ensures) in sym (length-take-le _ _ (got .0))
 
 resume-image-requires : tie.Need-resume-image-requires
-resume-image-requires c κs = let got = rw (c .before .before .before .n .given .1) at (c .before .before .before .before .before .before .load-irq2 .ensures) in (c .before .before .before .before .before .before .before .before .before .before .before .before .before .before .before .before .pre, got .1)
+resume-image-requires c κs = let got = rw (c .before .before .before .n .given .1) at (c .before .before .before .before .before .before .load-irq2 .ensures) in (c .before .before .before .before .before .before .before .before .before .before .before .before .before .before .before .before .before .before .pre, got .1)
 
 enum-told : tie.Need-enum-told
 enum-told c = search needs
@@ -50,25 +56,27 @@ enum-told c = search needs
 enum-told-2 : tie.Need-enum-told-2
 enum-told-2 c = search needs
 
-returns-2 : tie.Need-returns-2
-returns-2 c = search needs
-
 returns-3 : tie.Need-returns-3
 returns-3 c = search needs
 
 returns-4 : tie.Need-returns-4
 returns-4 c = search needs
 
+returns-5 : tie.Need-returns-5
+returns-5 c = search needs
+
 pub resume-spec : {M : Type 1} → statement M
 resume-spec =
     tie.close
     (tie.spec
+    has-same-requires
+    returns
     add-read-budget
     read-budget-requires
     enum-known-budget
     slice-aggregate-load-image
     load-image-requires
-    returns
+    returns-2
     add-load-irq2
     slice-aggregate-load-irq2
     load-irq2-requires
@@ -78,6 +86,6 @@ resume-spec =
     resume-image-requires
     enum-told
     enum-told-2
-    returns-2
     returns-3
-    returns-4)
+    returns-4
+    returns-5)

@@ -33,6 +33,15 @@ add-is-missing-at c = search needs
 is-missing-at-requires : tie.Need-is-missing-at-requires
 is-missing-at-requires c κs = search needs
 
+add-is-astray : tie.Need-add-is-astray
+add-is-astray c = search needs
+
+is-astray-requires : tie.Need-is-astray-requires
+is-astray-requires c κs = search needs
+
+returns-3 : tie.Need-returns-3
+returns-3 c = search needs
+
 add-start-frame : tie.Need-add-start-frame
 add-start-frame c = search needs
 
@@ -42,8 +51,8 @@ slice-aggregate-start-frame c = search needs
 start-frame-requires : tie.Need-start-frame-requires
 start-frame-requires c κs = search needs
 
-returns-3 : tie.Need-returns-3
-returns-3 c = search needs
+returns-4 : tie.Need-returns-4
+returns-4 c = search needs
 
 add-start-record : tie.Need-add-start-record
 add-start-record c = search needs
@@ -51,14 +60,14 @@ add-start-record c = search needs
 start-record-requires : tie.Need-start-record-requires
 start-record-requires c κs = search needs
 
-returns-4 : tie.Need-returns-4
-returns-4 c = search needs
-
-run-more-requires : tie.Need-run-more-requires
-run-more-requires c κs = (c .before .before .before .before .before .before .before .before .before .before .before .before .before .before .before .before .before .before .before .before .before .pre .0, c .before .before .before .before .before .before .before .before .before .before .before .before .before .before .before .before .before .before .before .before .before .pre .1, c .before .before .before .before .before .before .start-record .ensures)
-
 returns-5 : tie.Need-returns-5
 returns-5 c = search needs
+
+run-more-requires : tie.Need-run-more-requires
+run-more-requires c κs = (c .before .before .before .before .before .before .before .before .before .before .before .before .before .before .before .before .before .before .before .before .before .before .before .pre .0, c .before .before .before .before .before .before .before .before .before .before .before .before .before .before .before .before .before .before .before .before .before .before .before .pre .1, c .before .before .before .before .before .before .start-record .ensures)
+
+returns-6 : tie.Need-returns-6
+returns-6 c = search needs
 
 pub resume-image-spec : {M : Type 1} → statement M
 resume-image-spec =
@@ -74,12 +83,15 @@ resume-image-spec =
     returns-2
     add-is-missing-at
     is-missing-at-requires
+    add-is-astray
+    is-astray-requires
+    returns-3
     add-start-frame
     slice-aggregate-start-frame
     start-frame-requires
-    returns-3
+    returns-4
     add-start-record
     start-record-requires
-    returns-4
+    returns-5
     run-more-requires
-    returns-5)
+    returns-6)

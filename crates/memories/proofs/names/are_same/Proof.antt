@@ -1,9 +1,9 @@
--- `commands::names::are_same` meets its contract.
+-- `memories::names::are_same` meets its contract.
 use Prim.Native.Nat.{_-_}
 use lib.ListN.{length}
 use borrow.Author.Needs.{needs}
-use Rattle.commands.proofs.names.are_same.Statement.{statement}
-use Rattle.commands.proofs.names.are_same.Tie as tie
+use Rattle.memories.proofs.names.are_same.Statement.{statement}
+use Rattle.memories.proofs.names.are_same.Tie as tie
 
 abbrev Inv-loop : tie.InvT-loop
 Inv-loop a b i₀ i = Unit {0}

@@ -1,0 +1,58 @@
+-- `memories::names::has_same` meets its contract.
+use borrow.Author.Needs.{needs}
+use Prim.Native.Nat.{_-_}
+use Rattle.memories.proofs.names.has_same.Statement.{statement}
+use Rattle.memories.proofs.names.has_same.Tie as tie
+
+abbrev Inv-loop : tie.InvT-loop
+Inv-loop first read count i₀ t5 i = Unit
+
+abbrev μ-loop : tie.MeasureT-loop
+μ-loop first read count i₀ t5 i = count - i
+
+loop-holds : tie.Need-loop-holds Inv-loop μ-loop
+loop-holds c = search needs
+
+is-again-requires : tie.Need-is-again-requires Inv-loop μ-loop
+is-again-requires c κs = search needs
+
+add-say-at : tie.Need-add-say-at Inv-loop μ-loop
+add-say-at c = search needs
+
+slice-aggregate-say-at : tie.Need-slice-aggregate-say-at Inv-loop μ-loop
+slice-aggregate-say-at c = search needs
+
+say-at-requires : tie.Need-say-at-requires Inv-loop μ-loop
+say-at-requires c κs = search needs
+
+returns : tie.Need-returns Inv-loop μ-loop
+returns c = search needs
+
+add-i : tie.Need-add-i Inv-loop μ-loop
+add-i c = search needs
+
+loop-less : tie.Need-loop-less Inv-loop μ-loop
+loop-less c = search needs
+
+loop-again : tie.Need-loop-again Inv-loop μ-loop
+loop-again c = search needs
+
+returns-2 : tie.Need-returns-2 Inv-loop μ-loop
+returns-2 c = search needs
+
+pub has-same-spec : {M : Type 1} → statement M
+has-same-spec =
+    tie.close
+    (tie.spec
+    Inv-loop
+    μ-loop
+    loop-holds
+    is-again-requires
+    add-say-at
+    slice-aggregate-say-at
+    say-at-requires
+    returns
+    add-i
+    loop-less
+    loop-again
+    returns-2)

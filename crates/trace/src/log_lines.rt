@@ -1,7 +1,7 @@
 // The lines T, H, L and D.
 use crate::fields::put_cycle;
-use crate::fields::put_last_word;
-use crate::fields::put_named_word;
+use crate::fields::put_last_digits;
+use crate::fields::put_named_digits;
 use isa::io::io_name_length;
 use text::decimal::digit_count;
 use text::hex_words::hex_digit;
@@ -111,13 +111,14 @@ pub fn put_line_h(
     requires { ⌜ (at + length (lineH c (wayOf writes) n x) ≤ length (now out)) × HexWords (now table) ⌝ }
     ensures { λ r. ⌜ (now (out .exit) ≡ put (now (out .entry)) at (lineH c (wayOf writes) n x)) × (r ≡ at + length (lineH c (wayOf writes) n x)) ⌝ }
 {
+    let held = hex_word(x, table);
     let way_at = put_cycle(out, at, b'H', c, table);
     if writes {
         let name_at = put_bytes(out, way_at, b" WRITE");
-        return put_named_word(out, name_at, n, x, table);
+        return put_named_digits(out, name_at, n, held);
     }
     let name_at = put_bytes(out, way_at, b" READ");
-    put_named_word(out, name_at, n, x, table)
+    put_named_digits(out, name_at, n, held)
 }
 
 // Lays an L or D line at a place and returns the place after it.
@@ -132,8 +133,9 @@ pub fn put_line_ld(
     requires { ⌜ (at + length (lineLD (letter ∷ []) c x) ≤ length (now out)) × HexWords (now table) ⌝ }
     ensures { λ r. ⌜ (now (out .exit) ≡ put (now (out .entry)) at (lineLD (letter ∷ []) c x)) × (r ≡ at + length (lineLD (letter ∷ []) c x)) ⌝ }
 {
+    let held = hex_word(x, table);
     let value_at = put_cycle(out, at, letter, c, table);
-    put_last_word(out, value_at, x, table)
+    put_last_digits(out, value_at, held)
 }
 
 // How many bytes an H line has, whatever its value.

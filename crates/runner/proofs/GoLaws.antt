@@ -9,7 +9,7 @@ use native.Mathlib.Numerals.{add-one}
 use native.Mathlib.Omega.{arith}
 use lib.Dec.{eqb, leb, ltb}
 use lib.ListN.{length, drop, List·getD-map}
-use borrow.Author.Tests.{eqb-false, leb-true, leb-false, lt-leb, le-leb, lt-ltb, le-ltb, not-true}
+use borrow.Author.Tests.{eq-eqb, leb-true, leb-false, lt-leb, le-leb, lt-ltb, le-ltb, not-true}
 use Rattle.text.specs.Questions.{accepted}
 use Rattle.text.specs.Place.{put}
 use Rattle.text.proofs.Truth.{and-left, and-right}
@@ -106,6 +106,22 @@ module _ (image irq2 : List ℕ) (budget n at room : ℕ) (m : Machine) (within 
   unfolding ask
   asks-spent h = reasoned (not (eqb (m .core .status) 0)) (eqb (m .core .age) cycleLimit) (leb budget n) (ltb room (at + bytes)) (λ a b c. absurd (false≢true (sym c ∙ le-leb budget n h)))
 
+  asks-old : m .core .age ≡ cycleLimit → ask simp (codeOf image irq2) budget room n at m ≡ some (reasonOf (m .core) n budget)
+  unfolding ask
+  asks-old h = reasoned (not (eqb (m .core .status) 0)) (eqb (m .core .age) cycleLimit) (leb budget n) (ltb room (at + bytes)) (λ a b c. absurd (false≢true (sym b ∙ eq-eqb (m .core .age) cycleLimit h)))
+
+  -- At the age where its budget is spent, or at the limit where that comes first.
+  asks-last : (from : ℕ) → from + n ≡ m .core .age → (t : Bool) → ltb budget (cycleLimit - from) ≡ t → m .core .age ≡ cond t (from + budget) cycleLimit
+      → ask simp (codeOf image irq2) budget room n at m ≡ some (reasonOf (m .core) n budget)
+  asks-last from e true q h = asks-spent (omega (arith, e, h))
+  asks-last from e false q h = asks-old h
+
+-- A cycle is counted.
+pub older : (image : List ℕ) (hit : Bool) (m m' : Machine) (log log' : List ℕ) (at at' : ℕ) → traced m' log' at' ≡ tracedOn image hit (traced m log at)
+    → m' .core .age ≡ m .core .age + 1
+unfolding tracedOn
+older image hit m m' log log' at at' e = ap (λ (t : Traced). t .machine .core .age) e ∙ age-after image hit m
+
 -- ---- the loop
 
 -- n cycles in: `now` and `log` are those of the plain machine, `at` bytes are written, and p is the age's place in the irq2 list.
@@ -136,10 +152,10 @@ module _ (image irq2 : List ℕ) (s : Machine) (budget : ℕ) (log₀ : List ℕ
           rest = rw place (rest simp (codeOf image irq2) s budget log₀ n at now log (u .going));
         }
 
-    pub ends-spent : budget ≤ n
+    pub ends-last : now .core .age ≡ cond (ltb budget (cycleLimit - s .core .age)) (s .core .age + budget) cycleLimit → s .core .age + n ≡ now .core .age
         → (e : Ended) (m : Machine) → m ≡ now → e .cycles ≡ n → e .at ≡ at → ranTold (e .answer) ≡ accepted 0 → ranReason (e .answer) ≡ reasonOf (now .core) n budget
         → EndsRun (codeOf image irq2) budget log₀ s e m log
-    ends-spent h = ends (asks-spent image irq2 budget n at (length log₀) now (u .within) h)
+    ends-last h k = ends (asks-last image irq2 budget n at (length log₀) now (u .within) (s .core .age) k (ltb budget (cycleLimit - s .core .age)) refl h)
 
     -- `hit`: the age is in the list.
     module _ (hit : Bool) (here : hit ≡ isAt (now .core .age) p irq2) where
@@ -158,14 +174,7 @@ module _ (image irq2 : List ℕ) (s : Machine) (budget : ℕ) (log₀ : List ℕ
       ends-there t stays is = ends (asks-some image irq2 budget n at (length log₀) now (u .within) (asked t is ∙ stays))
 
       module _ (t : Bool) (going : t ≡ true) (is : t ≡ goes (now .core) (length (linesAtFetch image (atFetch hit now))) (length log - at)) where
-        -- A machine that makes a cycle is not at the limit, and there is room for its lines.
-        pub not-at-limit : (now .core .age ≡ cycleLimit → ⊥)
-        not-at-limit e =
-            let room = leb (length (linesAtFetch image (atFetch hit now))) (length log - at) in
-            let two = and-left (eqb (now .core .status) 0 && not (eqb (now .core .age) cycleLimit)) room (sym is ∙ going) in
-            let young = not-true (eqb (now .core .age) cycleLimit) (and-right (eqb (now .core .status) 0) (not (eqb (now .core .age) cycleLimit)) two) in
-            eqb-false (now .core .age) cycleLimit young e
-
+        -- There is room for the lines of a cycle that is made.
         pub has-room : at + length (linesAtFetch image (atFetch hit now)) ≤ length log
         has-room =
             let bytes = length (linesAtFetch image (atFetch hit now)) in

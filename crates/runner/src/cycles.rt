@@ -4,6 +4,7 @@ use crate::irq2::is_at;
 use crate::irq2::next_place;
 use crate::irq2::place_of;
 use crate::questions::ended;
+use crate::questions::last_age;
 use crate::questions::may_cycle;
 use machine::Core;
 use simulator::cycle::cycle;
@@ -39,11 +40,11 @@ pub fn make_cycles(
     let mut c = start;
     let mut place = place_of(irq2, start.age);
     let mut at = 0;
-    let mut rest = budget;
-    while 0 < rest {
+    let last = last_age(start.age, budget);
+    while c.age < last {
         let hit = is_at(irq2, place, c.age);
         if !may_cycle(c, hit, regs, io, image, log.len() - at) {
-            return ended(c, budget - rest, budget, at);
+            return ended(c, c.age - start.age, budget, at);
         }
         let s = cycle(
             c,
@@ -62,7 +63,6 @@ pub fn make_cycles(
         c = s.core;
         at = s.at;
         place = next_place(place, hit);
-        rest -= 1;
     }
-    ended(c, budget - rest, budget, at)
+    ended(c, c.age - start.age, budget, at)
 }

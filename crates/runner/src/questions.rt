@@ -4,10 +4,10 @@ use crate::RunAnswer;
 use machine::Core;
 use simulator::lengths::lines_length;
 ghost use mathlib.Core.Path.{_≡_};
-ghost use mathlib.Core.Bool.{not, _&&_};
+ghost use mathlib.Core.Bool.{cond, not, _&&_};
 ghost use mathlib.Core.List.{List};
-ghost use Prim.Native.Nat.{ℕ};
-ghost use lib.Dec.{eqb, leb};
+ghost use Prim.Native.Nat.{ℕ, _+_, _-_, _≤_, _<_};
+ghost use lib.Dec.{eqb, leb, ltb};
 ghost use lib.ListN.{length, getD, drop};
 ghost use Rattle.text.specs.Questions.{accepted};
 ghost use Rattle.files.specs.Sizes.{isImageLength, isDataLength, isDiskLength, isFrameLength, cycleLimit};
@@ -39,7 +39,19 @@ pub fn are_lengths(image: usize, memory: usize, disk: usize, frame: usize) -> bo
     frame == 65536
 }
 
-// Whether a machine that is not at its budget's end makes a cycle: it has not stopped, is not at the limit, and the cycle's lines fit `room` bytes.
+// The age of a machine of this age when its budget is spent, or the limit where that comes first.
+pub fn last_age(age: u64, budget: u64) -> u64
+    requires { ⌜ age ≤ cycleLimit ⌝ }
+    ensures { λ r. ⌜ r ≡ cond (ltb budget (cycleLimit - age)) (age + budget) cycleLimit ⌝ }
+    ensures { λ r. ⌜ (age ≤ r) × ((r ≤ age + budget) × (r ≤ cycleLimit)) ⌝ }
+{
+    if budget < CYCLE_LIMIT - age {
+        return age + budget;
+    }
+    CYCLE_LIMIT
+}
+
+// Whether a machine that is not at its budget's end and not at the limit makes a cycle: it has not stopped, and the cycle's lines fit `room` bytes.
 // `hit`: the age is in the irq2 list.
 pub fn may_cycle(
     c: Core,
@@ -49,14 +61,11 @@ pub fn may_cycle(
     image: &[u64],
     room: usize,
 ) -> bool
-    requires { ⌜ Sound c (drop 3 (now regs)) (now io) ⌝ }
+    requires { ⌜ Sound c (drop 3 (now regs)) (now io) × (c .age < cycleLimit) ⌝ }
     requires { ⌜ (length (now regs) ≡ 16) × ((getD (now regs) 0 0 ≡ 0) × (length (now image) ≡ 4096)) ⌝ }
     ensures { λ r. ⌜ ((memory disk frame : List ℕ) → r ≡ (eqb (c .status) 0 && not (eqb (c .age) cycleLimit) && leb (length (linesAtFetch (now (image .entry)) (atFetch hit (packed c (now (regs .entry)) (now (io .entry)) memory disk frame)))) room)) ⌝ }
 {
     if c.status != 0 {
-        return false;
-    }
-    if c.age == CYCLE_LIMIT {
         return false;
     }
     if MOST_BYTES <= room {

@@ -1,5 +1,5 @@
 -- The irq2 list by a place that moves with the age, instead of a search in each cycle. Assumes nothing.
-use Prim.Native.Nat.{ℕ, zero, suc, _+_, _-_, _≤_, _<_, zero-le, suc-le-suc}
+use Prim.Native.Nat.{ℕ, zero, suc, _+_, _-_, _^_, _≤_, _<_, zero-le, suc-le-suc}
 use mathlib.Core.Path.{_≡_, refl, sym, _∙_, ap}
 use mathlib.Core.Bool.{Bool, true, false, cond, _&&_, _||_, false≢true, or-true}
 use mathlib.Core.List.{List, [], _∷_}
@@ -9,11 +9,11 @@ use native.Mathlib.Numerals.{add-one}
 use lib.ListN.{length, getD, drop, drop-of-length-le}
 use lib.Seq.{drop-cons}
 use lib.Dec.{eqb, ltb}
-use borrow.Author.Tests.{lt-ltb, le-ltb, eq-eqb, eqb-true, eqb-false, ltb-true, ltb-false}
+use borrow.Author.Tests.{lt-ltb, le-ltb, eq-eqb, ne-eqb, eqb-true, eqb-false, ltb-true, ltb-false}
 use Rattle.text.proofs.Truth.{and-left, and-right}
 use Rattle.files.specs.Irq2File.{risesAfter, rising}
 use Rattle.machine.specs.Interrupts.{isIn}
-use Rattle.runner.specs.Irq2Place.{PlaceOf, isAt}
+use Rattle.runner.specs.Irq2Place.{PlaceOf, isAt, awaitedAt}
 
 -- ---- membership by places
 
@@ -205,3 +205,16 @@ between-found b h =
     let order = b .order in
     let size = b .within in
     record { within = omega arith; before = b .before; after = λ i j k. b .after i (omega arith) k }
+
+-- ---- what a run waits for
+
+-- It is c where c stands at the place.
+at-awaited : (c p : ℕ) (l : List ℕ) → c < 2 ^ 64 - 1 → eqb c (awaitedAt p l) ≡ isAt c p l
+at-awaited c p l h = go (ltb p (length l))
+  where
+    go : (t : Bool) → eqb c (cond t (getD l p 0) (2 ^ 64 - 1)) ≡ (t && eqb c (getD l p 0))
+    go true = refl
+    go false = ne-eqb c (2 ^ 64 - 1) (λ e. omega (arith, e, h))
+
+pub hit-at : (hit : Bool) (c p x : ℕ) (l : List ℕ) → c < 2 ^ 64 - 1 → x ≡ awaitedAt p l → hit ≡ eqb c x → hit ≡ isAt c p l
+hit-at hit c p x l h e q = q ∙ ap (eqb c) e ∙ at-awaited c p l h

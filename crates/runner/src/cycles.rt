@@ -1,8 +1,8 @@
 // The cycles of a run.
 use crate::Ended;
-use crate::irq2::is_at;
-use crate::irq2::next_place;
-use crate::irq2::place_of;
+use crate::irq2::first_awaited;
+use crate::irq2::is_awaited;
+use crate::irq2::next_awaited;
 use crate::questions::ended;
 use crate::questions::last_age;
 use crate::questions::may_cycle;
@@ -38,11 +38,11 @@ pub fn make_cycles(
     ensures { λ r. ⌜ EndsRun (codeOf (now (image .entry)) (now (irq2 .entry))) budget (now (log .entry)) (packed start (now (regs .entry)) (now (io .entry)) (now (memory .entry)) (now (disk .entry)) (now (frame .entry))) r (packed (r .core) (now (regs .exit)) (now (io .exit)) (now (memory .exit)) (now (disk .exit)) (now (frame .exit))) (now (log .exit)) ⌝ }
 {
     let mut c = start;
-    let mut place = place_of(irq2, start.age);
+    let mut awaited = first_awaited(irq2, start.age);
     let mut at = 0;
     let last = last_age(start.age, budget);
     while c.age < last {
-        let hit = is_at(irq2, place, c.age);
+        let hit = is_awaited(awaited, c.age);
         if !may_cycle(c, hit, regs, io, image, log.len() - at) {
             return ended(c, c.age - start.age, budget, at);
         }
@@ -62,7 +62,7 @@ pub fn make_cycles(
         );
         c = s.core;
         at = s.at;
-        place = next_place(place, hit);
+        awaited = next_awaited(irq2, awaited, hit);
     }
     ended(c, c.age - start.age, budget, at)
 }

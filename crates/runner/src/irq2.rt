@@ -1,9 +1,14 @@
-// The irq2 list: whether it rises, and the place that belongs to an age.
+// The irq2 list: whether it rises, the place that belongs to an age, and what a run waits for.
+use crate::Awaited;
 ghost use mathlib.Core.Path.{_≡_};
 ghost use mathlib.Core.Bool.{true, cond};
 ghost use Prim.Native.Nat.{_+_, _^_, _<_};
+ghost use lib.Dec.{eqb};
 ghost use Rattle.files.specs.Irq2File.{rising};
-ghost use Rattle.runner.specs.Irq2Place.{PlaceOf, isAt};
+ghost use Rattle.runner.specs.Irq2Place.{PlaceOf, awaitedAt};
+
+// A cycle that never comes.
+const NEVER: u64 = 0xFFFF_FFFF_FFFF_FFFF;
 
 // Whether a list of cycles is strictly rising.
 pub fn is_rising(cycles: &[u64]) -> bool
@@ -37,21 +42,44 @@ pub fn place_of(cycles: &[u64], c: u64) -> usize
     low
 }
 
-// Whether c stands at the place p of a list.
-pub fn is_at(cycles: &[u64], p: usize, c: u64) -> bool
-    ensures { λ r. ⌜ r ≡ isAt c p (now (cycles .entry)) ⌝ }
+// What a run that begins at the age c waits for.
+pub fn first_awaited(cycles: &[u64], c: u64) -> Awaited
+    requires { ⌜ rising (now cycles) ≡ true ⌝ }
+    ensures { λ r. ⌜ PlaceOf c (r .place) (now (cycles .entry)) × (r .cycle ≡ awaitedAt (r .place) (now (cycles .entry))) ⌝ }
+{
+    awaited_at(cycles, place_of(cycles, c))
+}
+
+// What is waited for at a place.
+fn awaited_at(cycles: &[u64], p: usize) -> Awaited
+    ensures { λ r. ⌜ (r .place ≡ p) × (r .cycle ≡ awaitedAt (r .place) (now (cycles .entry))) ⌝ }
 {
     if p < cycles.len() {
-        c == cycles[p]
-    } else {
-        false
+        return Awaited {
+            place: p,
+            cycle: cycles[p],
+        };
+    }
+    Awaited {
+        place: p,
+        cycle: NEVER,
     }
 }
 
-// The place after p where the list has been hit there, else p.
-pub fn next_place(p: usize, hit: bool) -> usize
-    requires { ⌜ p + 1 < 2 ^ 64 ⌝ }
-    ensures { λ r. ⌜ r ≡ cond hit (p + 1) p ⌝ }
+// Whether c is the cycle that is waited for.
+pub fn is_awaited(a: Awaited, c: u64) -> bool
+    ensures { λ r. ⌜ r ≡ eqb c (a .cycle) ⌝ }
 {
-    if hit { p + 1 } else { p }
+    c == a.cycle
+}
+
+// What is waited for after a cycle: the next entry where the list has been hit.
+pub fn next_awaited(cycles: &[u64], a: Awaited, hit: bool) -> Awaited
+    requires { ⌜ (a .place + 1 < 2 ^ 64) × (a .cycle ≡ awaitedAt (a .place) (now cycles)) ⌝ }
+    ensures { λ r. ⌜ (r .place ≡ cond hit (a .place + 1) (a .place)) × (r .cycle ≡ awaitedAt (r .place) (now (cycles .entry))) ⌝ }
+{
+    if hit {
+        return awaited_at(cycles, a.place + 1);
+    }
+    a
 }

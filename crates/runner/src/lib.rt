@@ -43,3 +43,9 @@ pub struct Ended {
     pub at: usize,
     pub answer: RunAnswer,
 }
+
+// The entry of the irq2 list that a run waits for: its place, and the cycle that stands there, or one that never comes.
+pub struct Awaited {
+    pub place: usize,
+    pub cycle: u64,
+}

@@ -11,6 +11,7 @@ mod record;
 mod register_lines;
 mod registers;
 mod status;
+mod words;
 
 pub use cycles::put_cycles;
 pub use log::split_log;

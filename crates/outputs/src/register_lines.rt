@@ -1,7 +1,7 @@
 // Registers, a line each: the name, a blank and 8 digits.
+use crate::words::put_last_word;
 use names::put_io_name;
 use text::place::put_bytes;
-use trace::fields::put_last_word;
 ghost use mathlib.Core.Path.{_≡_};
 ghost use mathlib.Core.List.{[], _∷_, _++_, map};
 ghost use Prim.Native.Nat.{_+_, _≤_, _<_};

@@ -354,7 +354,13 @@ fn course_has_the_files() {
         for copy in std::fs::read_dir(folder.path()).unwrap() {
             let copy = copy.unwrap();
             let name = copy.file_name().into_string().unwrap();
-            let text = std::fs::read(copy.path()).unwrap();
+            let mut text = std::fs::read(copy.path()).unwrap();
+            // There the radius is 5, so that the log is short; the example draws 40.
+            if example == "circle" && name == "dmemin.txt" {
+                assert!(text.ends_with(b"00000005\n"));
+                let radius = text.len() - 3;
+                text[radius..].copy_from_slice(b"28\n");
+            }
             assert!(file(&example, &name) == Some(text), "{example}/{name}");
             count += 1;
         }

@@ -11,8 +11,9 @@ use lib.ListN.{length, length-append, getD, drop, drop-of-length-le}
 use lib.Seq.{drop-cons}
 use lib.Dec.{ltb, eqb}
 use borrow.Author.Tests.{lt-ltb, le-ltb, ltb-true, eqb-true}
+use Rattle.text.specs.declared.Numeral.{Numeral}
 use Rattle.text.specs.declared.Numeral.the-variants.{Value, NoNumeral}
-use Rattle.text.specs.Numerals.{digit, digitValue, digits, allDigits, value}
+use Rattle.text.specs.Numerals.{digit, digitValue, digits, allDigits, value, numeral}
 use Rattle.text.proofs.Truth.{and-left, and-right, below}
 
 -- ---- one digit
@@ -35,6 +36,10 @@ unfoldable pub valueAfter : ℕ → ℕ → List ℕ → ℕ
 valueAfter b acc [] = acc
 valueAfter b acc (c ∷ cs) = valueAfter b (acc * b + digitValue c) cs
 
+-- What reading them answers where those before them are digits that stand for `acc`.
+abbrev pub numeralAfter : ℕ → ℕ → List ℕ → Numeral
+numeralAfter b acc cs = cond (allDigits b cs) (Value (valueAfter b acc cs)) NoNumeral
+
 after-is : (b acc : ℕ) (cs : List ℕ) → valueAfter b acc cs ≡ acc * b ^ length cs + value b cs
 unfolding valueAfter value
 after-is b acc [] = rw (pow-zero, mul-one, add-zero)
@@ -42,6 +47,9 @@ after-is b acc (c ∷ cs) = after-is b (acc * b + digitValue c) cs ∙ rw (pow-s
 
 pub value-is : (b : ℕ) (cs : List ℕ) → valueAfter b 0 cs ≡ value b cs
 value-is b cs = after-is b 0 cs ∙ rw (zero-mul, zero-add)
+
+pub numeral-is : (b : ℕ) (cs : List ℕ) → numeralAfter b 0 cs ≡ numeral b cs
+numeral-is b cs = rw (value-is b cs)
 
 -- ---- the digits that are written
 
@@ -136,6 +144,12 @@ module _ (b i : ℕ) (s : List ℕ) (h : i < length s) (d : ℕ) (e : d ≡ digi
   unfolding valueAfter
   value-more a = rw (add-one i, drop-cons s i 0 h, e)
 
+  pub numeral-more : (a : ℕ) → d < b → numeralAfter b (a * b + d) (drop (i + 1) s) ≡ numeralAfter b a (drop i s)
+  numeral-more a k = rw (all-more k, value-more a)
+
+  pub numeral-stop : (a : ℕ) → b ≤ d → NoNumeral ≡ numeralAfter b a (drop i s)
+  numeral-stop a k = rw (← (all-stop k))
+
   -- The number so far stays below base ^ count, and so within the whole's bound.
   pub value-fits : (a m : ℕ) → a < b ^ i → d < b → b ^ length s ≤ m → (a * b + d < b ^ (i + 1)) × (b ^ (i + 1) ≤ m)
   value-fits a m ha hd hm =
@@ -150,6 +164,9 @@ module _ (b i : ℕ) (s : List ℕ) (h : length s ≤ i) where
   pub value-end : (a : ℕ) → a ≡ valueAfter b a (drop i s)
   unfolding valueAfter
   value-end a = rw (drop-of-length-le s h)
+
+  pub numeral-end : (a : ℕ) → Value a ≡ numeralAfter b a (drop i s)
+  numeral-end a = rw (← all-end, ← (value-end a))
 
 -- ---- an answer that is a number where a test holds
 

@@ -126,10 +126,17 @@ pub fn read_digits(s: &[u8], base: u64, values: &[u8; 256]) -> Numeral
     requires { ⌜ (base ≤ 16) × ((base ^ length (now s) ≤ 2 ^ 64) × DigitValues (now values)) ⌝ }
     ensures { λ r. ⌜ r ≡ numeral base (now (s .entry)) ⌝ }
 {
-    if all_digits(s, base, values) {
-        return Numeral::Value(value_of(s, base, values));
+    let mut acc = 0;
+    let mut i = 0;
+    while i < s.len() {
+        let d = digit_at(s, i, values);
+        if base <= d {
+            return Numeral::NoNumeral;
+        }
+        acc = acc * base + d;
+        i += 1;
     }
-    Numeral::NoNumeral
+    Numeral::Value(acc)
 }
 
 // What the byte at i is worth as a digit.

@@ -32,3 +32,15 @@ module _ {test : ℕ → Bool} {l : List ℕ} {i : ℕ} (p : Passed test l i) wh
   pub all-passed : length l ≤ i → true ≡ all test l
   unfolding all
   all-passed h = sym (p .is ∙ ap (all test) (drop-of-length-le l h))
+
+-- Asking all of them, the answers joined as they come: the bytes before i have been told of.
+module _ (test : ℕ → Bool) (l : List ℕ) (i : ℕ) where
+  pub all-turn : (told t : Bool) → i < length l → t ≡ (told && test (getD l i 0)) → (t && all test (drop (i + 1) l)) ≡ (told && all test (drop i l))
+  unfolding all
+  all-turn true t h e = rw (e, add-one i, drop-cons l i 0 h)
+  all-turn false t h e = rw e
+
+  pub all-end : (told : Bool) → length l ≤ i → told ≡ (told && all test (drop i l))
+  unfolding all
+  all-end true h = rw (drop-of-length-le l h)
+  all-end false h = refl

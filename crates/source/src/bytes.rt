@@ -1,5 +1,6 @@
 // The bytes of a line.
 ghost use mathlib.Core.Path.{_≡_};
+ghost use mathlib.Core.Bool.{_&&_};
 ghost use Rattle.source.specs.Bytes.{isBlank, isLetter, isLetterOrDigit, isAllowed, areRightBytes, all};
 
 // The most bytes of a line.
@@ -67,14 +68,24 @@ pub fn are_right_bytes(line: &[u8]) -> bool
     if MOST_BYTES < line.len() {
         return false;
     }
+    let mut right = true;
     let mut i = 0;
     while i < line.len() {
-        if !is_allowed(line[i]) {
-            return false;
-        }
+        right = is_right_after(right, line[i]);
         i += 1;
     }
-    true
+    right
+}
+
+// Whether the bytes before this one are right, as is told, and this one may stand in a line.
+fn is_right_after(right: bool, b: u8) -> bool
+    ensures { λ r. ⌜ r ≡ (right && isAllowed b) ⌝ }
+{
+    let allowed = is_allowed(b);
+    if right {
+        return allowed;
+    }
+    false
 }
 
 // Whether all bytes of a part are letters or digits.

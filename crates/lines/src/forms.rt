@@ -2,6 +2,7 @@
 use crate::Form;
 use source::bytes::are_right_bytes;
 use source::shapes::has_shape;
+use source::shapes::is_lone_definition;
 use source::tokens::next_token;
 use source::tokens::split;
 ghost use mathlib.Core.Path.{_≡_};
@@ -58,7 +59,7 @@ fn shape_form(line: &[u8], places: &[usize], n: usize, values: &[u8; 256]) -> Fo
     if has_shape(line, places, n, directive, b"", values) {
         return Form::Nothing;
     }
-    if has_shape(line, places, n, directive, b":", values) {
+    if is_lone_definition(line, places, n) {
         return Form::Label;
     }
     if has_shape(line, places, n, directive, b"o$,$,$,$,i,i", values) {

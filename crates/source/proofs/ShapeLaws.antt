@@ -66,3 +66,15 @@ module _ {directive shape : List ℕ} {ts : List (List ℕ)} {i : ℕ} (f : Fitt
   pub all-fit : length shape ≤ i → true ≡ matches directive shape ts
   unfolding matches
   all-fit h = let same = f .number in let past : length ts ≤ i = omega arith in sym (f .is ∙ rw (drop-of-length-le shape h, drop-of-length-le ts past))
+
+-- A shape of one sign.
+pub one-sign : (directive : List ℕ) (sign : ℕ) (ts : List (List ℕ)) → length ts ≡ 1 → (t : List ℕ) → t ≡ getD ts 0 [] → (r : Bool) → r ≡ fits directive sign t
+    → r ≡ matches directive (sign ∷ []) ts
+unfolding matches
+one-sign directive sign [] n t at r fit = absurd (omega arith)
+one-sign directive sign (u ∷ []) n t at r fit = go r (fit ∙ ap (fits directive sign) at)
+  where
+    go : (r : Bool) → r ≡ fits directive sign u → r ≡ (fits directive sign u && true)
+    go true e = rw (← e)
+    go false e = rw (← e)
+one-sign directive sign (u ∷ v ∷ us) n t at r fit = absurd (omega arith)

@@ -7,8 +7,10 @@ use crate::numbers::is_some;
 use crate::numbers::read_number;
 ghost use mathlib.Core.Path.{_≡_};
 ghost use mathlib.Core.Bool.{_||_};
-ghost use Prim.Native.Nat.{_+_, _*_, _≤_};
+ghost use mathlib.Core.List.{List};
+ghost use Prim.Native.Nat.{ℕ, _+_, _*_, _≤_};
 ghost use lib.ListN.{length};
+ghost use Rattle.text.specs.Bytes.{bytes};
 ghost use Rattle.text.specs.Numerals.{DigitValues};
 ghost use Rattle.source.specs.Tokens.{tokens, texts};
 ghost use Rattle.source.specs.Spans.{Split};
@@ -41,6 +43,19 @@ pub fn has_shape(
         i += 1;
     }
     true
+}
+
+// Whether a line, split into n tokens, is a label's definition alone, whatever the directive is.
+pub fn is_lone_definition(line: &[u8], places: &[usize], n: usize) -> bool
+    requires { ⌜ (Split (now line) (now places) n) × (4 ≤ length (now places)) ⌝ }
+    ensures { λ r. ⌜ ((directive : List ℕ) → r ≡ matches directive (bytes ":") (texts (tokens (now (line .entry))))) ⌝ }
+{
+    if n != 1 {
+        return false;
+    }
+    let start = places[0];
+    let end = places[1];
+    is_definition(&line[start..end])
 }
 
 // Whether a token fits a sign.

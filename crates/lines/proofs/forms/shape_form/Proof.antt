@@ -1,8 +1,9 @@
 -- `lines::forms::shape_form` meets its contract.
 use native.Mathlib.Omega.{arith}
-use borrow.Author.Tests.{not-true, not-false}
-use Rattle.lines.proofs.FormLaws.{shape-parts, is-nothing, is-label, is-code, is-labelled, is-word, is-wrong}
 use borrow.Author.Needs.{needs}
+use Rattle.text.specs.Bytes.{bytes}
+use Rattle.lines.specs.Line.{directive}
+use Rattle.lines.proofs.FormLaws.{shape-parts, is-nothing, is-label, is-code, is-labelled, is-word, is-wrong}
 use Rattle.lines.proofs.forms.shape_form.Statement.{statement}
 use Rattle.lines.proofs.forms.shape_form.Tie as tie
 
@@ -13,7 +14,20 @@ has-shape-requires : tie.Need-has-shape-requires
 has-shape-requires c κs = search needs
 
 returns : tie.Need-returns
-returns c = (is-nothing (c .before .before .before .before .before .before .before .args .line .now) (c .before .has-shape .result) (c .before .has-shape .ensures) (c .if1 .taken), shape-parts (c .before .before .before .before .before .before .before .pre .0) (c .before .before .before .before .before .before .before .pre .1) _ _ (omega arith) (c .before .has-shape .result) (c .before .has-shape .ensures) (c .if1 .taken))
+returns c =
+    let s = c .before .before .before .before .before .before .before in
+    let a = c .before .has-shape in
+    (is-nothing (s .args .line .now) (a .result) (a .ensures) (c .if1 .taken), shape-parts (s .pre .0) (s .pre .1) _ _ (omega arith) (a .result) (a .ensures) (c .if1 .taken))
+
+is-lone-definition-requires : tie.Need-is-lone-definition-requires
+is-lone-definition-requires c κs = search needs
+
+returns-2 : tie.Need-returns-2
+returns-2 c =
+    let s = c .before .before .before .before .before .before .before .before .before in
+    let a = c .before .before .before .has-shape in
+    let b = c .before .is-lone-definition in
+    (is-label (s .args .line .now) (a .result) (a .ensures) (c .before .before .if1 .left) (b .result) (b .ensures directive) (c .if2 .taken), shape-parts (s .pre .0) (s .pre .1) directive (bytes ":") (omega arith) (b .result) (b .ensures directive) (c .if2 .taken))
 
 slice-aggregate-has-shape-2 : tie.Need-slice-aggregate-has-shape-2
 slice-aggregate-has-shape-2 c = search needs
@@ -21,8 +35,13 @@ slice-aggregate-has-shape-2 c = search needs
 has-shape-requires-2 : tie.Need-has-shape-requires-2
 has-shape-requires-2 c κs = search needs
 
-returns-2 : tie.Need-returns-2
-returns-2 c = (is-label (c .before .before .before .before .before .before .before .before .before .before .before .args .line .now) (c .before .before .before .before .before .has-shape .result) (c .before .before .before .before .before .has-shape .ensures) (c .before .before .before .before .if1 .left) (c .before .has-shape2 .result) (c .before .has-shape2 .ensures) (c .if2 .taken), shape-parts (c .before .before .before .before .before .before .before .before .before .before .before .pre .0) (c .before .before .before .before .before .before .before .before .before .before .before .pre .1) _ _ (omega arith) (c .before .has-shape2 .result) (c .before .has-shape2 .ensures) (c .if2 .taken))
+returns-3 : tie.Need-returns-3
+returns-3 c =
+    let s = c .before .before .before .before .before .before .before .before .before .before .before .before .before in
+    let a = c .before .before .before .before .before .before .before .has-shape in
+    let b = c .before .before .before .before .before .is-lone-definition in
+    let d = c .before .has-shape2 in
+    (is-code (s .args .line .now) (a .result) (a .ensures) (c .before .before .before .before .before .before .if1 .left) (b .result) (b .ensures directive) (c .before .before .before .before .if2 .left) (d .result) (d .ensures) (c .if3 .taken), shape-parts (s .pre .0) (s .pre .1) _ _ (omega arith) (d .result) (d .ensures) (c .if3 .taken))
 
 slice-aggregate-has-shape-3 : tie.Need-slice-aggregate-has-shape-3
 slice-aggregate-has-shape-3 c = search needs
@@ -30,8 +49,14 @@ slice-aggregate-has-shape-3 c = search needs
 has-shape-requires-3 : tie.Need-has-shape-requires-3
 has-shape-requires-3 c κs = search needs
 
-returns-3 : tie.Need-returns-3
-returns-3 c = (is-code (c .before .before .before .before .before .before .before .before .before .before .before .before .before .before .before .args .line .now) (c .before .before .before .before .before .before .before .before .before .has-shape .result) (c .before .before .before .before .before .before .before .before .before .has-shape .ensures) (c .before .before .before .before .before .before .before .before .if1 .left) (c .before .before .before .before .before .has-shape2 .result) (c .before .before .before .before .before .has-shape2 .ensures) (c .before .before .before .before .if2 .left) (c .before .has-shape3 .result) (c .before .has-shape3 .ensures) (c .if3 .taken), shape-parts (c .before .before .before .before .before .before .before .before .before .before .before .before .before .before .before .pre .0) (c .before .before .before .before .before .before .before .before .before .before .before .before .before .before .before .pre .1) _ _ (omega arith) (c .before .has-shape3 .result) (c .before .has-shape3 .ensures) (c .if3 .taken))
+returns-4 : tie.Need-returns-4
+returns-4 c =
+    let s = c .before .before .before .before .before .before .before .before .before .before .before .before .before .before .before .before .before in
+    let a = c .before .before .before .before .before .before .before .before .before .before .before .has-shape in
+    let b = c .before .before .before .before .before .before .before .before .before .is-lone-definition in
+    let d = c .before .before .before .before .before .has-shape2 in
+    let l = c .before .has-shape3 in
+    (is-labelled (s .args .line .now) (a .result) (a .ensures) (c .before .before .before .before .before .before .before .before .before .before .if1 .left) (b .result) (b .ensures directive) (c .before .before .before .before .before .before .before .before .if2 .left) (d .result) (d .ensures) (c .before .before .before .before .if3 .left) (l .result) (l .ensures) (c .if4 .taken), shape-parts (s .pre .0) (s .pre .1) _ _ (omega arith) (l .result) (l .ensures) (c .if4 .taken))
 
 slice-aggregate-has-shape-4 : tie.Need-slice-aggregate-has-shape-4
 slice-aggregate-has-shape-4 c = search needs
@@ -39,20 +64,25 @@ slice-aggregate-has-shape-4 c = search needs
 has-shape-requires-4 : tie.Need-has-shape-requires-4
 has-shape-requires-4 c κs = search needs
 
-returns-4 : tie.Need-returns-4
-returns-4 c = (is-labelled (c .before .before .before .before .before .before .before .before .before .before .before .before .before .before .before .before .before .before .before .args .line .now) (c .before .before .before .before .before .before .before .before .before .before .before .before .before .has-shape .result) (c .before .before .before .before .before .before .before .before .before .before .before .before .before .has-shape .ensures) (c .before .before .before .before .before .before .before .before .before .before .before .before .if1 .left) (c .before .before .before .before .before .before .before .before .before .has-shape2 .result) (c .before .before .before .before .before .before .before .before .before .has-shape2 .ensures) (c .before .before .before .before .before .before .before .before .if2 .left) (c .before .before .before .before .before .has-shape3 .result) (c .before .before .before .before .before .has-shape3 .ensures) (c .before .before .before .before .if3 .left) (c .before .has-shape4 .result) (c .before .has-shape4 .ensures) (c .if4 .taken), shape-parts (c .before .before .before .before .before .before .before .before .before .before .before .before .before .before .before .before .before .before .before .pre .0) (c .before .before .before .before .before .before .before .before .before .before .before .before .before .before .before .before .before .before .before .pre .1) _ _ (omega arith) (c .before .has-shape4 .result) (c .before .has-shape4 .ensures) (c .if4 .taken))
-
-slice-aggregate-has-shape-5 : tie.Need-slice-aggregate-has-shape-5
-slice-aggregate-has-shape-5 c = search needs
-
-has-shape-requires-5 : tie.Need-has-shape-requires-5
-has-shape-requires-5 c κs = (c .before .before .before .before .before .before .before .before .before .before .before .before .before .before .before .before .before .before .before .before .before .pre .0, omega (arith, c .before .before .before .before .before .before .before .before .before .before .before .before .before .before .before .before .before .before .before .before .before .pre .1), c .before .before .before .before .before .before .before .before .before .before .before .before .before .before .before .before .before .before .before .before .before .pre .2)
-
 returns-5 : tie.Need-returns-5
-returns-5 c = (is-word (c .before .before .before .before .before .before .before .before .before .before .before .before .before .before .before .before .before .before .before .before .before .before .before .args .line .now) (c .before .before .before .before .before .before .before .before .before .before .before .before .before .before .before .before .before .has-shape .result) (c .before .before .before .before .before .before .before .before .before .before .before .before .before .before .before .before .before .has-shape .ensures) (c .before .before .before .before .before .before .before .before .before .before .before .before .before .before .before .before .if1 .left) (c .before .before .before .before .before .before .before .before .before .before .before .before .before .has-shape2 .result) (c .before .before .before .before .before .before .before .before .before .before .before .before .before .has-shape2 .ensures) (c .before .before .before .before .before .before .before .before .before .before .before .before .if2 .left) (c .before .before .before .before .before .before .before .before .before .has-shape3 .result) (c .before .before .before .before .before .before .before .before .before .has-shape3 .ensures) (c .before .before .before .before .before .before .before .before .if3 .left) (c .before .before .before .before .before .has-shape4 .result) (c .before .before .before .before .before .has-shape4 .ensures) (c .before .before .before .before .if4 .left) (c .before .has-shape5 .result) (c .before .has-shape5 .ensures) (c .if5 .taken), shape-parts (c .before .before .before .before .before .before .before .before .before .before .before .before .before .before .before .before .before .before .before .before .before .before .before .pre .0) (c .before .before .before .before .before .before .before .before .before .before .before .before .before .before .before .before .before .before .before .before .before .before .before .pre .1) _ _ (omega arith) (c .before .has-shape5 .result) (c .before .has-shape5 .ensures) (c .if5 .taken))
+returns-5 c =
+    let s = c .before .before .before .before .before .before .before .before .before .before .before .before .before .before .before .before .before .before .before .before .before in
+    let a = c .before .before .before .before .before .before .before .before .before .before .before .before .before .before .before .has-shape in
+    let b = c .before .before .before .before .before .before .before .before .before .before .before .before .before .is-lone-definition in
+    let d = c .before .before .before .before .before .before .before .before .before .has-shape2 in
+    let l = c .before .before .before .before .before .has-shape3 in
+    let w = c .before .has-shape4 in
+    (is-word (s .args .line .now) (a .result) (a .ensures) (c .before .before .before .before .before .before .before .before .before .before .before .before .before .before .if1 .left) (b .result) (b .ensures directive) (c .before .before .before .before .before .before .before .before .before .before .before .before .if2 .left) (d .result) (d .ensures) (c .before .before .before .before .before .before .before .before .if3 .left) (l .result) (l .ensures) (c .before .before .before .before .if4 .left) (w .result) (w .ensures) (c .if5 .taken), shape-parts (s .pre .0) (s .pre .1) _ _ (omega arith) (w .result) (w .ensures) (c .if5 .taken))
 
 returns-6 : tie.Need-returns-6
-returns-6 c = (is-wrong (c .before .before .before .before .before .before .before .before .before .before .before .before .before .before .before .before .before .before .before .before .before .before .before .args .line .now) (c .before .before .before .before .before .before .before .before .before .before .before .before .before .before .before .before .before .has-shape .result) (c .before .before .before .before .before .before .before .before .before .before .before .before .before .before .before .before .before .has-shape .ensures) (c .before .before .before .before .before .before .before .before .before .before .before .before .before .before .before .before .if1 .left) (c .before .before .before .before .before .before .before .before .before .before .before .before .before .has-shape2 .result) (c .before .before .before .before .before .before .before .before .before .before .before .before .before .has-shape2 .ensures) (c .before .before .before .before .before .before .before .before .before .before .before .before .if2 .left) (c .before .before .before .before .before .before .before .before .before .has-shape3 .result) (c .before .before .before .before .before .before .before .before .before .has-shape3 .ensures) (c .before .before .before .before .before .before .before .before .if3 .left) (c .before .before .before .before .before .has-shape4 .result) (c .before .before .before .before .before .has-shape4 .ensures) (c .before .before .before .before .if4 .left) (c .before .has-shape5 .result) (c .before .has-shape5 .ensures) (c .if5 .left), omega arith)
+returns-6 c =
+    let s = c .before .before .before .before .before .before .before .before .before .before .before .before .before .before .before .before .before .before .before .before .before in
+    let a = c .before .before .before .before .before .before .before .before .before .before .before .before .before .before .before .has-shape in
+    let b = c .before .before .before .before .before .before .before .before .before .before .before .before .before .is-lone-definition in
+    let d = c .before .before .before .before .before .before .before .before .before .has-shape2 in
+    let l = c .before .before .before .before .before .has-shape3 in
+    let w = c .before .has-shape4 in
+    (is-wrong (s .args .line .now) (a .result) (a .ensures) (c .before .before .before .before .before .before .before .before .before .before .before .before .before .before .if1 .left) (b .result) (b .ensures directive) (c .before .before .before .before .before .before .before .before .before .before .before .before .if2 .left) (d .result) (d .ensures) (c .before .before .before .before .before .before .before .before .if3 .left) (l .result) (l .ensures) (c .before .before .before .before .if4 .left) (w .result) (w .ensures) (c .if5 .left), omega arith)
 
 pub shape-form-spec : {M : Type 1} → statement M
 shape-form-spec =
@@ -61,16 +91,15 @@ shape-form-spec =
     slice-aggregate-has-shape
     has-shape-requires
     returns
+    is-lone-definition-requires
+    returns-2
     slice-aggregate-has-shape-2
     has-shape-requires-2
-    returns-2
+    returns-3
     slice-aggregate-has-shape-3
     has-shape-requires-3
-    returns-3
+    returns-4
     slice-aggregate-has-shape-4
     has-shape-requires-4
-    returns-4
-    slice-aggregate-has-shape-5
-    has-shape-requires-5
     returns-5
     returns-6)

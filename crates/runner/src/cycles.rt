@@ -40,6 +40,7 @@ pub fn make_cycles(
     let mut c = start;
     let mut awaited = first_awaited(irq2, start.age);
     let mut at = 0;
+    let mut stamp = [0u64; 7];
     let last = last_age(start.age, budget);
     while c.age < last {
         let hit = is_awaited(awaited, c.age);
@@ -59,6 +60,7 @@ pub fn make_cycles(
             log,
             at,
             table,
+            &mut stamp,
         );
         c = s.core;
         at = s.at;

@@ -16,9 +16,10 @@ ghost use Rattle.text.specs.Numerals.{HexWords};
 ghost use Rattle.text.specs.Place.{put};
 ghost use Rattle.isa.specs.Operations.{operationOf, input, output};
 ghost use Rattle.trace.specs.LogLines.{lineLD};
+ghost use Rattle.trace.specs.Stamps.{Stamped};
 ghost use Rattle.machine.specs.Log.{changeLines, ioLines};
 
-// Lays the lines of an instruction at a place and returns the place after them; `c` is the cycle.
+// Lays the lines of an instruction at a place and returns the place after them; `c` is the cycle, which the stamp serves.
 pub fn put_io_lines(
     log: &mut [u8],
     at: usize,
@@ -27,13 +28,14 @@ pub fn put_io_lines(
     o: Operands,
     io: &[u32; 23],
     table: &[u64; 1024],
+    stamp: &[u64; 7],
 ) -> usize
-    requires { ⌜ (at + length (ioLines c (operationOf op) o (now io)) ≤ length (now log)) × HexWords (now table) ⌝ }
+    requires { ⌜ (at + length (ioLines c (operationOf op) o (now io)) ≤ length (now log)) × (HexWords (now table) × Stamped c (now stamp)) ⌝ }
     ensures { λ r. ⌜ (now (log .exit) ≡ put (now (log .entry)) at (ioLines c (operationOf op) o (now (io .entry)))) × (r ≡ at + length (ioLines c (operationOf op) o (now (io .entry)))) ⌝ }
 {
     match op {
-        19 => put_read_line(log, at, c, o, io, table),
-        20 => put_write_lines(log, at, c, o, io, table),
+        19 => put_read_line(log, at, c, o, io, table, stamp),
+        20 => put_write_lines(log, at, c, o, io, table, stamp),
         _ => at,
     }
 }
@@ -46,13 +48,14 @@ fn put_read_line(
     o: Operands,
     io: &[u32; 23],
     table: &[u64; 1024],
+    stamp: &[u64; 7],
 ) -> usize
-    requires { ⌜ (at + length (ioLines c input o (now io)) ≤ length (now log)) × HexWords (now table) ⌝ }
+    requires { ⌜ (at + length (ioLines c input o (now io)) ≤ length (now log)) × (HexWords (now table) × Stamped c (now stamp)) ⌝ }
     ensures { λ r. ⌜ (now (log .exit) ≡ put (now (log .entry)) at (ioLines c input o (now (io .entry)))) × (r ≡ at + length (ioLines c input o (now (io .entry)))) ⌝ }
 {
     let a = plus(o.rs, o.rt);
     if is_listed(a) {
-        return put_line_h(log, at, c, false, a, io[a as usize], table);
+        return put_line_h(log, at, c, false, a, io[a as usize], table, stamp);
     }
     at
 }
@@ -65,14 +68,15 @@ fn put_write_lines(
     o: Operands,
     io: &[u32; 23],
     table: &[u64; 1024],
+    stamp: &[u64; 7],
 ) -> usize
-    requires { ⌜ (at + length (ioLines c output o (now io)) ≤ length (now log)) × HexWords (now table) ⌝ }
+    requires { ⌜ (at + length (ioLines c output o (now io)) ≤ length (now log)) × (HexWords (now table) × Stamped c (now stamp)) ⌝ }
     ensures { λ r. ⌜ (now (log .exit) ≡ put (now (log .entry)) at (ioLines c output o (now (io .entry)))) × (r ≡ at + length (ioLines c output o (now (io .entry)))) ⌝ }
 {
     let a = plus(o.rs, o.rt);
     if is_listed(a) {
-        let change_at = put_line_h(log, at, c, true, a, o.rm, table);
-        return put_change_line(log, change_at, c, a, o.rm, io, table);
+        let change_at = put_line_h(log, at, c, true, a, o.rm, table, stamp);
+        return put_change_line(log, change_at, c, a, o.rm, io, table, stamp);
     }
     at
 }
@@ -86,13 +90,14 @@ fn put_change_line(
     x: u32,
     io: &[u32; 23],
     table: &[u64; 1024],
+    stamp: &[u64; 7],
 ) -> usize
-    requires { ⌜ (at + length (changeLines c n x (now io)) ≤ length (now log)) × HexWords (now table) ⌝ }
+    requires { ⌜ (at + length (changeLines c n x (now io)) ≤ length (now log)) × (HexWords (now table) × Stamped c (now stamp)) ⌝ }
     ensures { λ r. ⌜ (now (log .exit) ≡ put (now (log .entry)) at (changeLines c n x (now (io .entry)))) × (r ≡ at + length (changeLines c n x (now (io .entry)))) ⌝ }
 {
     match n {
-        9 => put_if_new(log, at, b'L', c, x, io[LEDS], table),
-        10 => put_if_new(log, at, b'D', c, x, io[DISPLAY7SEG], table),
+        9 => put_if_new(log, at, b'L', c, x, io[LEDS], table, stamp),
+        10 => put_if_new(log, at, b'D', c, x, io[DISPLAY7SEG], table, stamp),
         _ => at,
     }
 }
@@ -106,12 +111,13 @@ fn put_if_new(
     x: u32,
     before: u32,
     table: &[u64; 1024],
+    stamp: &[u64; 7],
 ) -> usize
-    requires { ⌜ (at + length (cond (not (eqb x before)) (lineLD (letter ∷ []) c x) []) ≤ length (now log)) × HexWords (now table) ⌝ }
+    requires { ⌜ (at + length (cond (not (eqb x before)) (lineLD (letter ∷ []) c x) []) ≤ length (now log)) × (HexWords (now table) × Stamped c (now stamp)) ⌝ }
     ensures { λ r. ⌜ (now (log .exit) ≡ put (now (log .entry)) at (cond (not (eqb x before)) (lineLD (letter ∷ []) c x) [])) × (r ≡ at + length (cond (not (eqb x before)) (lineLD (letter ∷ []) c x) [])) ⌝ }
 {
     if x == before {
         return at;
     }
-    put_line_ld(log, at, letter, c, x, table)
+    put_line_ld(log, at, letter, c, x, table, stamp)
 }

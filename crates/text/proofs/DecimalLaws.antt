@@ -3,16 +3,16 @@ use Prim.Native.Nat.{ℕ, zero, suc, _+_, _-_, _*_, _/_, _%_, _^_, _≤_, _<_, z
 use mathlib.Core.Path.{_≡_, refl, sym, _∙_, ap}
 use mathlib.Core.Bool.{Bool, true, false, cond}
 use mathlib.Core.List.{List, [], _∷_, _++_}
-use native.Mathlib.Nat.{le-refl, le-trans, le-antisymm, div-lt-self, zero-div, zero-lt-suc, le-of-lt, not-le-of-lt, pow-le-pow-right, le-of-suc-le-suc, pow-suc, div-lt-iff-lt-mul, le-div-iff-mul-le, mod-eq-of-lt, pow-zero, one-mul}
+use native.Mathlib.Nat.{le-refl, le-trans, le-antisymm, div-lt-self, zero-div, zero-lt-suc, le-of-lt, not-le-of-lt, pow-le-pow-right, le-of-suc-le-suc, pow-suc, div-lt-iff-lt-mul, le-div-iff-mul-le, mod-eq-of-lt, pow-zero, one-mul, div-div-eq-div-mul, lt-of-lt-of-le}
+use native.Mathlib.Numerals.{add-one}
 use native.Mathlib.Omega.{arith}
 use lib.ListN.{length}
 use lib.Dec.{eqb, ltb, leb}
 use borrow.Author.Tests.{lt-ltb, le-ltb, ltb-true, ltb-false, leb-true, leb-false, eqb-true}
-use Rattle.text.specs.Numerals.{digit, digits, digitCountUpTo, digitCount, decimal, allDigits, value}
-use Rattle.text.specs.Place.{put}
-use Rattle.text.proofs.PieceLaws.{more}
+use Rattle.text.specs.Numerals.{digit, digits, digitCountUpTo, digitCount, decimal, allDigits, value, lowBytes}
 use Rattle.text.proofs.Truth.{below}
-use Rattle.text.proofs.DigitLaws.{length-digits, digits-split, all-written, value-written}
+use Rattle.text.proofs.DigitLaws.{digit-is, digit-lt, length-digits, digits-split, digits-low, all-written, value-written}
+use Rattle.text.proofs.HexWordLaws.{low-front}
 
 module _ (b : ℕ) (two : 1 < b) where
   -- One digit less leaves a smaller number.
@@ -123,20 +123,9 @@ count-hundreds v h =
     let tens : v / 10 / 10 ≡ v / 100 = omega arith in
     rw (count-more 10 (omega arith) v (omega arith), count-more 10 (omega arith) (v / 10) (omega arith), tens) (omega arith)
 
-pub count-thousands : (v : ℕ) → 10000 ≤ v → digitCount 10 v ≡ digitCount 10 (v / 10000) + 4
-count-thousands v h =
-    let low : v / 100 / 100 ≡ v / 10000 = omega arith in
-    rw (count-hundreds v (omega arith), count-hundreds (v / 100) (omega arith), low) (omega arith)
-
 pub decimal-hundreds : (v : ℕ) → 100 ≤ v → decimal v ≡ decimal (v / 100) ++ digits 10 2 (v % 100)
 unfolding decimal
 decimal-hundreds v h = rw (count-hundreds v h) (digits-split 10 (omega arith) (digitCount 10 (v / 100)) 2 v)
-
-pub hundreds-laid : (v w at p : ℕ) (d e f : List ℕ) → 100 ≤ v → w ≡ v / 100 → p ≡ at + digitCount 10 w
-    → e ≡ put d at (decimal w) → f ≡ put e p (digits 10 2 (v % 100)) → f ≡ put d at (decimal v)
-hundreds-laid v w at p d e f h we pe q r =
-    more d e f at p (decimal w) (digits 10 2 (v % 100)) (rw length-decimal pe) q r
-    ∙ ap (put d at) (rw we (sym (decimal-hundreds v h)))
 
 -- The two digits of a number below 100 are the hexadecimal digits of the byte that has them in its halves.
 pub halves-digits : (n : ℕ) → n < 100 → digits 16 2 (n + n / 10 * 6) ≡ digits 10 2 n
@@ -146,6 +135,32 @@ halves-digits n h =
     let second : (n + n / 10 * 6) % 16 ≡ n % 10 = eqb-true _ _ (below (λ n. eqb ((n + n / 10 * 6) % 16) (n % 10)) 100 refl n h) in
     let tens : n / 10 % 10 ≡ n / 10 = omega arith in
     rw (first, second, tens)
+
+-- ---- digits that a number holds
+
+module _ (i v held rest : ℕ) (r : rest ≡ v / 10 ^ i) where
+  -- One more digit, below those that are held.
+  pub held-more : lowBytes i held ≡ digits 10 i v → lowBytes (i + 1) (held * 256 + (48 + rest % 10)) ≡ digits 10 (i + 1) v
+  unfolding digits
+  held-more e =
+      let small : rest % 10 < 10 = omega arith in
+      let first : digit (rest % 10) ≡ 48 + rest % 10 = sym (digit-is (rest % 10) (omega arith)) ∙ rw (lt-ltb (rest % 10) 10 small) in
+      let byte = digit-lt (rest % 10) (omega arith) in
+      let joined : held * 256 + (48 + rest % 10) ≡ digit (rest % 10) + held * 256 = omega (arith, first) in
+      let one : i + 1 ≡ 1 + i = omega arith in
+      rw (joined, add-one i, low-front i (digit (rest % 10)) held (omega arith), e, r)
+      (sym (ap (λ (n : ℕ). digits 10 n v) (sym (add-one i) ∙ one) ∙ digits-split 10 (omega arith) 1 i v ∙ rw (digits-low 10 (omega arith) i v)))
+
+  pub rest-more : rest / 10 ≡ v / 10 ^ (i + 1)
+  rest-more = rw (r, add-one i, div-div-eq-div-mul, pow-suc)
+
+-- It fits as many bytes.
+pub held-fits : (i held d : ℕ) → held < 256 ^ i → d < 256 → held * 256 + d < 256 ^ (i + 1)
+held-fits i held d h k = rw (add-one i, pow-suc) (omega arith)
+
+-- Eight bytes hold at most 64 bits.
+pub held-below : (i held : ℕ) → i ≤ 7 → held < 256 ^ i → held < 256 ^ 7
+held-below i held h k = lt-of-lt-of-le k (pow-le-pow-right {n = 256} (omega arith) h)
 
 -- A decimal reads back as its number.
 pub value-decimal : (v : ℕ) → value 10 (decimal v) ≡ v

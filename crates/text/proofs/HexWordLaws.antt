@@ -59,7 +59,7 @@ pub low-cut : (j v : ℕ) → lowBytes j (v % 256 ^ j) ≡ lowBytes j v
 low-cut j v = sym (low-mod j (v % 256 ^ j) (v / 256 ^ j)) ∙ ap (lowBytes j) (add-comm (v % 256 ^ j) (v / 256 ^ j * 256 ^ j) ∙ div-add-mod' v (256 ^ j))
 
 -- A byte below the others.
-low-front : (k c u : ℕ) → c < 256 → lowBytes (suc k) (c + u * 256) ≡ c ∷ lowBytes k u
+pub low-front : (k c u : ℕ) → c < 256 → lowBytes (suc k) (c + u * 256) ≡ c ∷ lowBytes k u
 unfolding lowBytes
 low-front k c u h = rw (add-mul-mod-self-right c u 256, mod-eq-of-lt h, add-mul-div-right c u {z = 256} (omega arith), div-eq-of-lt h, zero-add)
 
@@ -70,14 +70,14 @@ abbrev pub pair : ℕ → ℕ
 pair n = digit (n / 16) + digit (n % 16) * 256
 
 -- It fills two bytes at most.
-pair-lt : (n : ℕ) → n < 256 → pair n < 65536
+pub pair-lt : (n : ℕ) → n < 256 → pair n < 65536
 pair-lt n h =
     let first = digit-lt (n / 16) (omega arith) in
     let second = digit-lt (n % 16) (omega arith) in
     omega arith
 
 -- A pair below the other bytes.
-low-pair : (k n u : ℕ) → n < 256 → lowBytes (suc (suc k)) (pair n + u * 65536) ≡ digits 16 2 n ++ lowBytes k u
+pub low-pair : (k n u : ℕ) → n < 256 → lowBytes (suc (suc k)) (pair n + u * 65536) ≡ digits 16 2 n ++ lowBytes k u
 unfolding digits
 low-pair k n u h =
     let high : n / 16 < 16 = omega arith in
@@ -123,14 +123,6 @@ paired-bytes (suc k) x = let two : suc k * 2 ≡ suc (suc (k * 2)) = omega arith
 -- Its first entries are the pairs themselves.
 pub entry-pair : (t : List ℕ) (n : ℕ) → HexWords t → n < 256 → getD t n 0 ≡ pair n
 entry-pair t n w h = rw (zero-add, pow-zero, mul-one) at (w 0 n (omega arith) h)
-
--- The second digit of an entry below 16 is the digit of its number.
-pub entry-digit : (t : List ℕ) (n : ℕ) → HexWords t → n < 16 → getD t n 0 / 256 % 256 ≡ digit n
-entry-digit t n w h =
-    let first = digit-lt (n / 16) (omega arith) in
-    let second = digit-lt (n % 16) (omega arith) in
-    let low : n % 16 ≡ n = mod-eq-of-lt h in
-    rw (entry-pair t n w (omega arith), add-mul-div-right (digit (n / 16)) (digit (n % 16)) {z = 256} (omega arith), div-eq-of-lt {n = digit (n / 16)} {m = 256} (omega arith), zero-add, mod-eq-of-lt {n = digit (n % 16)} {m = 256} (omega arith), low)
 
 -- The sum of a word's four entries has all its digits.
 pub entries-sum : (t : List ℕ) (x : ℕ) → HexWords t → x < 2 ^ 32

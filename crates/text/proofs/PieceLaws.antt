@@ -1,11 +1,11 @@
 -- Pieces of a line laid side by side, and one over another. Assumes nothing.
 use Prim.Native.Nat.{ℕ, suc, _+_, _≤_}
-use mathlib.Core.Path.{_≡_, refl, sym}
+use mathlib.Core.Path.{_≡_, refl, sym, _∙_, ap}
 use mathlib.Core.List.{List, [], _∷_, _++_}
 use native.Mathlib.Numerals.{add-one}
 use native.Mathlib.Omega.{arith}
-use lib.ListN.{length, set}
-use lib.Seq.{set-set}
+use lib.ListN.{length, take, drop, set, take-append-drop, length-drop}
+use lib.Seq.{length-take-le, set-set}
 use Rattle.text.specs.Place.{put}
 use Rattle.text.proofs.PutLaws.{put-one, put-append, put-before}
 
@@ -29,3 +29,12 @@ put-over d at (x ∷ xs) [] h = absurd (omega arith)
 put-over d at (x ∷ xs) (y ∷ ys) h =
     let first : set (put (set d at x) (suc at) xs) at y ≡ put (set (set d at x) at y) (suc at) xs = rw (add-one at) at (put-before (set d at x) at 1 (y ∷ []) xs refl) in
     rw (first, set-set d at x y) (put-over (set d at y) (suc at) xs ys (omega arith))
+
+-- So does what is laid over the end of a piece and reaches as far.
+pub put-cut : (d : List ℕ) (at n : ℕ) (xs ys : List ℕ) → n ≤ length xs → length xs ≤ n + length ys → put (put d at xs) (at + n) ys ≡ put d at (take n xs ++ ys)
+put-cut d at n xs ys h k =
+    let front : length (take n xs) ≡ n = length-take-le n xs h in
+    let whole : put d at xs ≡ put (put d at (take n xs)) (at + n) (drop n xs) =
+    ap (put d at) (sym (take-append-drop n xs)) ∙ put-append d at (take n xs) (drop n xs) ∙ ap (λ (m : ℕ). put (put d at (take n xs)) (at + m) (drop n xs)) front in
+    rw (whole, put-over (put d at (take n xs)) (at + n) (drop n xs) ys (simp length-drop (omega arith)))
+    (sym (put-append d at (take n xs) ys ∙ ap (λ (m : ℕ). put (put d at (take n xs)) (at + m) ys) front))

@@ -1,10 +1,10 @@
 // Decimals, with a number of digits or without leading zeros.
+use crate::Taken;
 use crate::digits::digit;
-use crate::hex_words::put_hex_byte;
 ghost use mathlib.Core.Path.{_≡_};
-ghost use Prim.Native.Nat.{_+_, _^_, _≤_, _<_};
+ghost use Prim.Native.Nat.{_+_, _/_, _^_, _≤_, _<_};
 ghost use lib.ListN.{length};
-ghost use Rattle.text.specs.Numerals.{digitCount, digits, decimal, HexWords};
+ghost use Rattle.text.specs.Numerals.{digitCount, digits, decimal, lowBytes};
 ghost use Rattle.text.specs.Place.{put};
 
 // How many digits v has in decimal; 20 at most, as callers want to know.
@@ -59,65 +59,6 @@ pub fn put_decimal(out: &mut [u8], at: usize, v: u64) -> usize
     at + n
 }
 
-// The same by the table of hexadecimal digits.
-pub fn put_decimal_by_table(out: &mut [u8], at: usize, v: u64, words: &[u64; 1024]) -> usize
-    requires { ⌜ (at + digitCount 10 v ≤ length (now out)) × HexWords (now words) ⌝ }
-    ensures { λ r. ⌜ (now (out .exit) ≡ put (now (out .entry)) at (decimal v)) × (r ≡ at + digitCount 10 v) ⌝ }
-{
-    if v < 10_000 {
-        return put_to_four(out, at, v as u32, words);
-    }
-    if v < 100_000_000 {
-        return put_to_eight(out, at, v as u32, words);
-    }
-    put_decimal(out, at, v)
-}
-
-// The same of five to eight digits.
-fn put_to_eight(out: &mut [u8], at: usize, v: u32, words: &[u64; 1024]) -> usize
-    requires { ⌜ (10000 ≤ v) × ((v < 100000000) × ((at + digitCount 10 v ≤ length (now out)) × HexWords (now words))) ⌝ }
-    ensures { λ r. ⌜ (now (out .exit) ≡ put (now (out .entry)) at (decimal v)) × (r ≡ at + digitCount 10 v) ⌝ }
-{
-    let low = put_to_four(out, at, v / 10_000, words);
-    put_decimal_pair(out, low, v / 100 % 100, words);
-    put_decimal_pair(out, low + 2, v % 100, words);
-    low + 4
-}
-
-// The same of four digits at most.
-fn put_to_four(out: &mut [u8], at: usize, v: u32, words: &[u64; 1024]) -> usize
-    requires { ⌜ (v < 10000) × ((at + digitCount 10 v ≤ length (now out)) × HexWords (now words)) ⌝ }
-    ensures { λ r. ⌜ (now (out .exit) ≡ put (now (out .entry)) at (decimal v)) × (r ≡ at + digitCount 10 v) ⌝ }
-{
-    if v < 100 {
-        return put_to_two(out, at, v, words);
-    }
-    let low = put_to_two(out, at, v / 100, words);
-    put_decimal_pair(out, low, v % 100, words);
-    low + 2
-}
-
-// The same of one digit or two.
-fn put_to_two(out: &mut [u8], at: usize, v: u32, words: &[u64; 1024]) -> usize
-    requires { ⌜ (v < 100) × ((at + digitCount 10 v ≤ length (now out)) × HexWords (now words)) ⌝ }
-    ensures { λ r. ⌜ (now (out .exit) ≡ put (now (out .entry)) at (decimal v)) × (r ≡ at + digitCount 10 v) ⌝ }
-{
-    if v < 10 {
-        out[at] = digit(v as u8);
-        return at + 1;
-    }
-    put_decimal_pair(out, at, v, words);
-    at + 2
-}
-
-// Lays the two decimal digits of a number below 100 at a place: they are the hexadecimal digits of another.
-fn put_decimal_pair(out: &mut [u8], at: usize, n: u32, words: &[u64; 1024])
-    requires { ⌜ (at + 2 ≤ length (now out)) × ((n < 100) × HexWords (now words)) ⌝ }
-    ensures { λ _. ⌜ now (out .exit) ≡ put (now (out .entry)) at (digits 10 2 n) ⌝ }
-{
-    put_hex_byte(out, at, (n + n / 10 * 6) as usize, words);
-}
-
 // Lays the k low decimal digits of a word at a place, two at a time.
 fn put_word_digits(out: &mut [u8], at: usize, k: usize, v: u32)
     requires { ⌜ at + k ≤ length (now out) ⌝ }
@@ -155,5 +96,24 @@ pub fn put_decimal_digits(out: &mut [u8], at: usize, k: usize, v: u64)
         left -= 1;
         out[at + left] = digit((rest % 10) as u8);
         rest = rest / 10;
+    }
+}
+
+// The k low decimal digits of v in a number, and what is left of v without them.
+pub fn take_digits(v: u64, k: usize) -> Taken
+    requires { ⌜ k ≤ 8 ⌝ }
+    ensures { λ r. ⌜ (lowBytes k (r .held) ≡ digits 10 k v) × ((r .held < 256 ^ k) × (r .rest ≡ v / 10 ^ k)) ⌝ }
+{
+    let mut held = 0;
+    let mut rest = v;
+    let mut i = 0;
+    while i < k {
+        held = held * 256 + (48 + rest % 10);
+        rest = rest / 10;
+        i += 1;
+    }
+    Taken {
+        held: held,
+        rest: rest,
     }
 }

@@ -77,14 +77,6 @@ fn wide_pair(one: &[u64; 16], n: usize) -> u64
     one[n / 16] + one[n % 16] * 256
 }
 
-// The hexadecimal digit of a number below 16.
-pub fn hex_digit(n: usize, words: &[u64; 1024]) -> u8
-    requires { ⌜ (n < 16) × HexWords (now words) ⌝ }
-    ensures { λ r. ⌜ r ≡ digitOf n ⌝ }
-{
-    (words[n] / 256 % 256) as u8
-}
-
 // Lays the two hexadecimal digits of a byte at a place.
 pub fn put_hex_byte(out: &mut [u8], at: usize, n: usize, words: &[u64; 1024])
     requires { ⌜ (at + 2 ≤ length (now out)) × ((n < 256) × HexWords (now words)) ⌝ }
@@ -133,7 +125,7 @@ pub fn put_eight(out: &mut [u8], at: usize, v: u64)
 }
 
 // Lays the two low bytes of a number at a place, the lowest first.
-fn put_two(out: &mut [u8], at: usize, v: u64)
+pub fn put_two(out: &mut [u8], at: usize, v: u64)
     requires { ⌜ at + 2 ≤ length (now out) ⌝ }
     ensures { λ _. ⌜ now (out .exit) ≡ put (now (out .entry)) at (lowBytes 2 v) ⌝ }
 {

@@ -10,3 +10,9 @@ pub enum Numeral {
     Value(u64),
     NoNumeral,
 }
+
+// Digits that a number holds, the first in its low byte, and what is left of the number that they were taken from.
+pub struct Taken {
+    pub held: u64,
+    pub rest: u64,
+}

@@ -2,3 +2,4 @@
 pub mod RegisterTextLaws
 pub mod LengthLaws
 pub mod LineLaws
+pub mod StampLaws

@@ -1,21 +1,21 @@
 -- The log's lines, as the code lays their pieces. Assumes nothing.
 use Prim.Native.Char.{code}
-use Prim.Native.Nat.{ℕ, _+_, _*_, _/_, _%_, _^_, _≤_, _<_}
+use Prim.Native.Nat.{ℕ, _+_, _-_, _*_, _/_, _%_, _^_, _≤_, _<_}
 use mathlib.Core.Path.{_≡_, refl, sym, _∙_, ap}
 use mathlib.Core.List.{List, [], _∷_, _++_, append-assoc}
 use native.Mathlib.Omega.{arith}
-use lib.ListN.{length, set, length-append}
+use lib.ListN.{length, getD, set, length-append}
 use borrow.Author.Tests.{lt-ltb, le-ltb}
 use Rattle.text.specs.Bytes.{bytes}
-use Rattle.text.specs.Numerals.{digit, digits, digitCount, decimal, lowBytes}
+use Rattle.text.specs.Numerals.{digit, digits, lowBytes, HexWords}
 use Rattle.text.specs.Lines.{LF}
 use Rattle.text.specs.Place.{put}
-use Rattle.text.proofs.DigitLaws.{length-digits, digits-split, digits-low}
-use Rattle.text.proofs.DecimalLaws.{length-decimal}
-use Rattle.text.proofs.HexWordLaws.{low-beside, low-digits, low-cut}
+use Rattle.text.proofs.DigitLaws.{digit-lt, length-digits, digits-split, digits-low}
+use Rattle.text.proofs.HexWordLaws.{low-beside, low-digits, low-cut, low-front, low-pair, pair, pair-lt, pair-bytes}
 use Rattle.isa.specs.Word.{signExtended}
 use Rattle.isa.specs.Registers.{ioName}
 use Rattle.trace.specs.LogLines.{field, registerFields, registersText, frontT, lineT, lineH, lineLD}
+use Rattle.trace.specs.Stamps.{cycleFront}
 use Rattle.text.proofs.PieceLaws.{more, after-store}
 
 -- ---- T
@@ -24,21 +24,39 @@ use Rattle.text.proofs.PieceLaws.{more, after-store}
 abbrev front : ℕ → ℕ → List ℕ
 front pc word = bytes "T" ++ field (digits 16 3 pc) ++ field (digits 16 12 word)
 
--- Letter and spaces are stored, and the digits laid after them.
-pub instruction-laid : (pc word at : ℕ) (d e f : List ℕ)
-    → e ≡ put (set (set d at (code "T")) (at + 1) (code " ")) (at + 2) (digits 16 3 pc)
-    → f ≡ put (set e (at + 5) (code " ")) (at + 6) (digits 16 12 word)
-    → f ≡ put d at (front pc word)
-instruction-laid pc word at d e f p q =
-    more d e f at (at + 5) (bytes "T" ++ field (digits 16 3 pc)) (field (digits 16 12 word)) (simp length-digits (omega arith))
-    (after-store d e at (at + 1) (code "T") _ refl (after-store _ e (at + 1) (at + 2) (code " ") _ (omega arith) p))
-    (after-store e f (at + 5) (at + 6) (code " ") _ (omega arith) q)
+-- Its first eight bytes in a number: the pair of PC's first digits and the opcode's, moved to their places, and PC's last digit before a blank.
+module _ (pc op a b c : ℕ) (h : op < 256) (p : a ≡ pair (pc / 16 % 256) * 65536) (q : b ≡ pair (pc % 16 * 16) * 65536 ^ 2) (r : c ≡ pair op * 65536 ^ 3) where
+  -- The last digit has a 0 after it.
+  last : b ≡ (digit (pc % 16) + 12288) * 4294967296
+  last =
+      let digit-of : pc % 16 * 16 / 16 ≡ pc % 16 = omega arith in
+      let none : pc % 16 * 16 % 16 ≡ 0 = omega arith in
+      q ∙ rw (digit-of, none) (omega arith)
 
--- PC, by its first digit and the byte below it.
-pub pc-laid : (pc x at : ℕ) (d f : List ℕ) → x ≡ digit (pc / 256 % 16) → f ≡ put (set d at x) (at + 1) (digits 16 2 (pc % 256)) → f ≡ put d at (digits 16 3 pc)
-unfolding digits
-pc-laid pc x at d f e p =
-    after-store d f at (at + 1) x _ refl p ∙ rw e (ap (put d at) (sym (digits-split 16 (omega arith) 1 2 pc)))
+  front-fits : (a + b < 2 ^ 64) × (a + b + c < 2 ^ 64) × (17592186036140 ≤ a + b + c)
+  front-fits =
+      let byte = digit-lt (pc % 16) (omega arith) in
+      let first = pair-lt (pc / 16 % 256) (omega arith) in
+      let code = pair-lt op h in
+      (omega (arith, p, last), omega (arith, p, last, r), omega (arith, last))
+
+  front-bytes : lowBytes 8 (a + b + c - 17592186036140) ≡ bytes "T" ++ field (digits 16 3 pc) ++ field (digits 16 2 op)
+  unfolding digits
+  front-bytes =
+      let byte = digit-lt (pc % 16) (omega arith) in
+      let whole : a + b + c - 17592186036140 ≡ 84 + (32 + (pair (pc / 16 % 256) + (digit (pc % 16) + (32 + pair op * 256) * 256) * 65536) * 256) * 256 = omega (arith, p, last, r) in
+      rw (whole, low-front 7 84 _ (omega arith), low-front 6 32 _ (omega arith), low-pair 4 (pc / 16 % 256) _ (omega arith), low-front 3 (digit (pc % 16)) _ (omega arith), low-front 2 32 (pair op) (omega arith), pair-bytes op h)
+      (ap (λ (l : List ℕ). 84 ∷ 32 ∷ (l ++ (digit (pc % 16) ∷ 32 ∷ digits 16 2 op))) (digits-low 16 (omega arith) 2 (pc / 16)))
+
+pub front-held : (t : List ℕ) (pc op : ℕ) → HexWords t → op < 256
+    → let a = getD t (256 + pc / 16 % 256) 0 in let b = getD t (512 + pc % 16 * 16) 0 in let c = getD t (768 + op) 0 in
+    ((a + b < 2 ^ 64) × (a + b + c < 2 ^ 64) × (17592186036140 ≤ a + b + c))
+    × (lowBytes 8 (a + b + c - 17592186036140) ≡ bytes "T" ++ field (digits 16 3 pc) ++ field (digits 16 2 op))
+front-held t pc op w h =
+    let a = w 1 (pc / 16 % 256) (omega arith) (omega arith) in
+    let b = w 2 (pc % 16 * 16) (omega arith) (omega arith) in
+    let c = w 3 op (omega arith) h in
+    (front-fits pc op _ _ _ h a b c, front-bytes pc op _ _ _ h a b c)
 
 -- The word, by its two high bytes and the 32 bits below them.
 code-digits : (w : ℕ) → digits 16 2 (w / 2 ^ 40 % 256) ++ digits 16 2 (w / 2 ^ 32 % 256) ++ digits 16 8 (w % 2 ^ 32) ≡ digits 16 12 w
@@ -48,13 +66,20 @@ code-digits w =
     (ap (λ (l : List ℕ). l ++ digits 16 8 (w % 2 ^ 32)) (sym (digits-split 16 (omega arith) 2 2 (w / 2 ^ 32)))
     ∙ sym (digits-split 16 (omega arith) 4 8 w))
 
-pub code-laid : (w at : ℕ) (d e f g : List ℕ) → e ≡ put d at (digits 16 2 (w / 2 ^ 40 % 256)) → f ≡ put e (at + 2) (digits 16 2 (w / 2 ^ 32 % 256))
-    → g ≡ put f (at + 4) (digits 16 8 (w % 2 ^ 32)) → g ≡ put d at (digits 16 12 w)
-code-laid w at d e f g p q r =
-    more d f g at (at + 4) (digits 16 2 (w / 2 ^ 40 % 256) ++ digits 16 2 (w / 2 ^ 32 % 256)) _ (simp (length-append, length-digits) (omega arith))
-    (more d e f at (at + 2) (digits 16 2 (w / 2 ^ 40 % 256)) _ (simp length-digits) p q)
+-- The front, laid in three pieces: its first eight bytes, the registers rd and rs, and the last eight digits.
+pub instruction-laid : (pc w at : ℕ) (d e f g : List ℕ)
+    → e ≡ put d at (bytes "T" ++ field (digits 16 3 pc) ++ field (digits 16 2 (w / 2 ^ 40 % 256)))
+    → f ≡ put e (at + 8) (digits 16 2 (w / 2 ^ 32 % 256)) → g ≡ put f (at + 10) (digits 16 8 (w % 2 ^ 32))
+    → g ≡ put d at (front pc w)
+instruction-laid pc w at d e f g p q r =
+    let first = bytes "T" ++ field (digits 16 3 pc) in
+    let op = digits 16 2 (w / 2 ^ 40 % 256) in
+    let next = digits 16 2 (w / 2 ^ 32 % 256) in
+    let low = digits 16 8 (w % 2 ^ 32) in
+    more d f g at (at + 10) (first ++ field op ++ next) low (simp (length-append, length-digits) (omega arith))
+    (more d e f at (at + 8) (first ++ field op) next (simp (length-append, length-digits) (omega arith)) p q)
     r
-    ∙ ap (put d at) (code-digits w)
+    ∙ ap (put d at) (ap (λ (l : List ℕ). l ++ low) (append-assoc first (field op) next) ∙ append-assoc first (field op ++ next) low ∙ ap (λ (l : List ℕ). first ++ field l) (code-digits w))
 
 -- The eight digits of an immediate: five by its sign before those of its 12 bits. 206966894640 holds 00000, and 301826721350 FFFFF.
 module _ (i low : ℕ) (h : i < 2 ^ 12) (e : lowBytes 3 low ≡ digits 16 3 i) where
@@ -121,28 +146,27 @@ line-t-is pc word a b rs = regroup (front pc word) (field (digits 16 8 0)) (fiel
 
 -- ---- H, L and D
 
--- A letter, and the cycle in its field.
-abbrev cycle : ℕ → ℕ → List ℕ
-cycle letter c = letter ∷ field (decimal c)
-
 -- An H line, laid in three pieces.
-pub line-h-laid : (c n x at p q : ℕ) (way d e f g : List ℕ)
-    → p ≡ at + 2 + digitCount 10 c → q ≡ p + 1 + length way
-    → e ≡ put d at (cycle (code "H") c) → f ≡ put e p (field way) → g ≡ put f q (field (ioName n) ++ (field (digits 16 8 x) ++ (LF ∷ [])))
+pub line-h-laid : (c n x at p q : ℕ) (way d e f g : List ℕ) → q ≡ p + 1 + length way
+    → ((rest : List ℕ) → 5 ≤ length rest → put e p rest ≡ put d at (cycleFront (code "H") c ++ rest))
+    → f ≡ put e p (field way) → g ≡ put f q (field (ioName n) ++ (field (digits 16 8 x) ++ (LF ∷ [])))
     → g ≡ put d at (lineH c way n x)
 unfolding lineH
-line-h-laid c n x at p q way d e f g pe qe first second last =
-    let front = cycle (code "H") c in
-    more d f g at q (front ++ field way) _ (simp (length-append, length-decimal) (omega arith))
-    (more d e f at p front _ (simp length-decimal (omega arith)) first second)
-    last
-    ∙ ap (put d at) (sym (append-assoc (front ++ field way) (field (ioName n)) (field (digits 16 8 x) ++ (LF ∷ []))) ∙ sym (append-assoc (front ++ field way ++ field (ioName n)) (field (digits 16 8 x)) (LF ∷ [])))
+line-h-laid c n x at p q way d e f g qe first second last =
+    let front = cycleFront (code "H") c in
+    let name = field (ioName n) in
+    let value = field (digits 16 8 x) in
+    more e f g p q (field way) _ (omega arith) second last
+    ∙ first (field way ++ (name ++ (value ++ (LF ∷ [])))) (simp (length-append, length-digits) (omega arith))
+    ∙ ap (put d at) (sym (append-assoc front (field way) (name ++ (value ++ (LF ∷ [])))) ∙ sym (append-assoc (front ++ field way) name (value ++ (LF ∷ []))) ∙ sym (append-assoc (front ++ field way ++ name) value (LF ∷ [])))
 
 -- An L or D line, laid in two.
-pub line-ld-laid : (letter c x at p : ℕ) (d e f : List ℕ) → p ≡ at + 2 + digitCount 10 c
-    → e ≡ put d at (cycle letter c) → f ≡ put e p (field (digits 16 8 x) ++ (LF ∷ []))
+pub line-ld-laid : (letter c x at p : ℕ) (d e f : List ℕ)
+    → ((rest : List ℕ) → 5 ≤ length rest → put e p rest ≡ put d at (cycleFront letter c ++ rest))
+    → f ≡ put e p (field (digits 16 8 x) ++ (LF ∷ []))
     → f ≡ put d at (lineLD (letter ∷ []) c x)
 unfolding lineLD
-line-ld-laid letter c x at p d e f pe first last =
-    more d e f at p (cycle letter c) _ (simp length-decimal (omega arith)) first last
-    ∙ ap (put d at) (sym (append-assoc (cycle letter c) (field (digits 16 8 x)) (LF ∷ [])))
+line-ld-laid letter c x at p d e f first last =
+    last
+    ∙ first (field (digits 16 8 x) ++ (LF ∷ [])) (simp (length-append, length-digits) (omega arith))
+    ∙ ap (put d at) (sym (append-assoc (cycleFront letter c) (field (digits 16 8 x)) (LF ∷ [])))

@@ -1,6 +1,5 @@
 // Fields of a line: a space, and what stands after it.
 use names::put_io_name;
-use text::decimal::put_decimal_by_table;
 use text::hex_words::put_eight;
 use text::hex_words::put_hex_word;
 use text::lines::LF;
@@ -9,7 +8,7 @@ ghost use mathlib.Core.List.{[], _∷_, _++_};
 ghost use Prim.Native.Nat.{_+_, _≤_};
 ghost use lib.ListN.{length};
 ghost use Rattle.text.specs.Lines.{LF as lf};
-ghost use Rattle.text.specs.Numerals.{digits, digitCount, decimal, lowBytes, HexWords};
+ghost use Rattle.text.specs.Numerals.{digits, lowBytes, HexWords};
 ghost use Rattle.text.specs.Place.{put};
 ghost use Rattle.isa.specs.Registers.{ioName};
 ghost use Rattle.trace.specs.LogLines.{field};
@@ -42,16 +41,6 @@ fn put_digits(out: &mut [u8], at: usize, held: u64) -> usize
     out[at] = b' ';
     put_eight(out, at + 1, held);
     at + 9
-}
-
-// A line's letter and the cycle in decimal; returns the place after them.
-pub fn put_cycle(out: &mut [u8], at: usize, letter: u8, c: u64, table: &[u64; 1024]) -> usize
-    requires { ⌜ (at + 2 + digitCount 10 c ≤ length (now out)) × HexWords (now table) ⌝ }
-    ensures { λ r. ⌜ (now (out .exit) ≡ put (now (out .entry)) at (letter ∷ field (decimal c))) × (r ≡ at + 2 + digitCount 10 c) ⌝ }
-{
-    out[at] = letter;
-    out[at + 1] = b' ';
-    put_decimal_by_table(out, at + 2, c, table)
 }
 
 // The name of an I/O register; returns the place after it.

@@ -1,10 +1,9 @@
 // The lines T, H, L and D.
-use crate::fields::put_cycle;
 use crate::fields::put_last_digits;
 use crate::fields::put_named_digits;
+use crate::stamps::put_cycle;
 use isa::io::io_name_length;
 use text::decimal::digit_count;
-use text::hex_words::hex_digit;
 use text::hex_words::hex_word;
 use text::hex_words::put_eight;
 use text::hex_words::put_hex_byte;
@@ -18,11 +17,15 @@ ghost use Rattle.text.specs.Numerals.{digits, lowBytes, HexWords};
 ghost use Rattle.text.specs.Place.{put};
 ghost use Rattle.isa.specs.Word.{signExtended};
 ghost use Rattle.trace.specs.LogLines.{field, frontT, lineH, lineLD, wayOf};
+ghost use Rattle.trace.specs.Stamps.{Stamped};
 
 // The digits that an immediate below 2,048 gets in front, and those that another gets.
 const FIVE_0: u64 = 0x30_3030_3030;
 
 const FIVE_F: u64 = 0x46_4646_4646;
+
+// What a 0 in byte 5 is above a blank, less a T and a blank in bytes 0 and 1.
+const LETTER_AND_BLANKS: u64 = 0x1000_0000_0000 - 0x2054;
 
 // Lays the T line of an instruction at a place and returns the place after it: its front and `kept`, the text of R3 to R15. R1 and R2 are the
 // word's immediates.
@@ -50,30 +53,20 @@ fn put_instruction(out: &mut [u8], at: usize, pc: u32, word: u64, low: u64, tabl
     requires { ⌜ (at + 18 ≤ length (now out)) × (HexWords (now table) × (lowBytes 8 low ≡ digits 16 8 (word % 2 ^ 32))) ⌝ }
     ensures { λ _. ⌜ now (out .exit) ≡ put (now (out .entry)) at (bytes "T" ++ field (digits 16 3 pc) ++ field (digits 16 12 word)) ⌝ }
 {
-    out[at] = b'T';
-    out[at + 1] = b' ';
-    put_pc(out, at + 2, pc, table);
-    out[at + 5] = b' ';
-    put_code(out, at + 6, word, low, table);
+    put_eight(out, at, front_digits(pc, word, table));
+    put_hex_byte(out, at + 8, (word / 0x1_0000_0000 % 256) as usize, table);
+    put_eight(out, at + 10, low);
 }
 
-// PC, 3 digits.
-fn put_pc(out: &mut [u8], at: usize, pc: u32, table: &[u64; 1024])
-    requires { ⌜ (at + 3 ≤ length (now out)) × HexWords (now table) ⌝ }
-    ensures { λ _. ⌜ now (out .exit) ≡ put (now (out .entry)) at (digits 16 3 pc) ⌝ }
+// The first eight bytes of a T line in a number: the letter, PC and the opcode. PC's last digit is an entry's first; the 0 after it becomes a blank.
+fn front_digits(pc: u32, word: u64, table: &[u64; 1024]) -> u64
+    requires { ⌜ HexWords (now table) ⌝ }
+    ensures { λ r. ⌜ lowBytes 8 r ≡ bytes "T" ++ field (digits 16 3 pc) ++ field (digits 16 2 (word / 2 ^ 40 % 256)) ⌝ }
 {
-    out[at] = hex_digit((pc / 256 % 16) as usize, table);
-    put_hex_byte(out, at + 1, (pc % 256) as usize, table);
-}
-
-// The word, 12 digits; `low` holds the last eight.
-fn put_code(out: &mut [u8], at: usize, word: u64, low: u64, table: &[u64; 1024])
-    requires { ⌜ (at + 12 ≤ length (now out)) × (HexWords (now table) × (lowBytes 8 low ≡ digits 16 8 (word % 2 ^ 32))) ⌝ }
-    ensures { λ _. ⌜ now (out .exit) ≡ put (now (out .entry)) at (digits 16 12 word) ⌝ }
-{
-    put_hex_byte(out, at, (word / 0x100_0000_0000 % 256) as usize, table);
-    put_hex_byte(out, at + 2, (word / 0x1_0000_0000 % 256) as usize, table);
-    put_eight(out, at + 4, low);
+    let a = table[(256 + pc / 16 % 256) as usize];
+    let b = table[(512 + pc % 16 * 16) as usize];
+    let c = table[(768 + word / 0x100_0000_0000 % 256) as usize];
+    a + b + c - LETTER_AND_BLANKS
 }
 
 // R0, which is 0, and R1 and R2: 27 bytes. `first` and `second` hold the digits of R1 and R2.
@@ -98,7 +91,7 @@ fn immediate_digits(immediate: u64, low: u64) -> u64
     FIVE_F + low * 0x100_0000_0000
 }
 
-// Lays an H line at a place and returns the place after it; `writes`: WRITE, else READ.
+// Lays an H line at a place and returns the place after it; `writes`: WRITE, else READ. The stamp serves its cycle.
 pub fn put_line_h(
     out: &mut [u8],
     at: usize,
@@ -107,12 +100,13 @@ pub fn put_line_h(
     n: u32,
     x: u32,
     table: &[u64; 1024],
+    stamp: &[u64; 7],
 ) -> usize
-    requires { ⌜ (at + length (lineH c (wayOf writes) n x) ≤ length (now out)) × HexWords (now table) ⌝ }
+    requires { ⌜ (at + length (lineH c (wayOf writes) n x) ≤ length (now out)) × (HexWords (now table) × Stamped c (now stamp)) ⌝ }
     ensures { λ r. ⌜ (now (out .exit) ≡ put (now (out .entry)) at (lineH c (wayOf writes) n x)) × (r ≡ at + length (lineH c (wayOf writes) n x)) ⌝ }
 {
     let held = hex_word(x, table);
-    let way_at = put_cycle(out, at, b'H', c, table);
+    let way_at = put_cycle(out, at, b'H', c, stamp, table);
     if writes {
         let name_at = put_bytes(out, way_at, b" WRITE");
         return put_named_digits(out, name_at, n, held);
@@ -121,7 +115,7 @@ pub fn put_line_h(
     put_named_digits(out, name_at, n, held)
 }
 
-// Lays an L or D line at a place and returns the place after it.
+// Lays an L or D line at a place and returns the place after it. The stamp serves its cycle.
 pub fn put_line_ld(
     out: &mut [u8],
     at: usize,
@@ -129,12 +123,13 @@ pub fn put_line_ld(
     c: u64,
     x: u32,
     table: &[u64; 1024],
+    stamp: &[u64; 7],
 ) -> usize
-    requires { ⌜ (at + length (lineLD (letter ∷ []) c x) ≤ length (now out)) × HexWords (now table) ⌝ }
+    requires { ⌜ (at + length (lineLD (letter ∷ []) c x) ≤ length (now out)) × (HexWords (now table) × Stamped c (now stamp)) ⌝ }
     ensures { λ r. ⌜ (now (out .exit) ≡ put (now (out .entry)) at (lineLD (letter ∷ []) c x)) × (r ≡ at + length (lineLD (letter ∷ []) c x)) ⌝ }
 {
     let held = hex_word(x, table);
-    let value_at = put_cycle(out, at, letter, c, table);
+    let value_at = put_cycle(out, at, letter, c, stamp, table);
     put_last_digits(out, value_at, held)
 }
 

@@ -6,6 +6,8 @@ use lib.ListN.{length}
 use borrow.Author.Tests.{not-true, not-false}
 use borrow.Author.Needs.{needs}
 use Rattle.machine.specs.declared.Core.{Core}
+use Rattle.trace.specs.Stamps.{Stamps}
+use Rattle.trace.proofs.StampLaws.{no-stamp}
 use Rattle.executor.specs.Lent.{packed}
 use Rattle.runner.specs.Irq2Place.{awaitedAt}
 use Rattle.runner.proofs.Irq2Laws.{hit-at}
@@ -15,15 +17,16 @@ use Rattle.runner.proofs.cycles.make_cycles.Statement.{statement}
 use Rattle.runner.proofs.cycles.make_cycles.Tie as tie
 
 abbrev Inv-loop : tie.InvT-loop
-Inv-loop start regs₀ text₀ io₀ image memory₀ disk₀ frame₀ irq2 budget log₀ table c₀ awaited₀ at₀ last regs text io memory disk frame log c awaited at =
+Inv-loop start regs₀ text₀ io₀ image memory₀ disk₀ frame₀ irq2 budget log₀ table c₀ awaited₀ at₀ stamp₀ last regs text io memory disk frame log c awaited at stamp =
     Under image irq2 (packed start regs₀ io₀ memory₀ disk₀ frame₀) budget log₀ (c .age - start .age) at (awaited .place) (packed c regs io memory disk frame) log
     × Turning c regs text io memory disk frame
     × (length log ≡ length log₀) × (length memory ≡ length memory₀) × (length disk ≡ length disk₀) × (length frame ≡ length frame₀)
     × (start .age ≤ c .age) × (c .age ≤ last)
     × (awaited .cycle ≡ awaitedAt (awaited .place) irq2)
+    × Stamps stamp
 
 abbrev μ-loop : tie.MeasureT-loop
-μ-loop start regs₀ text₀ io₀ image memory₀ disk₀ frame₀ irq2 budget log₀ table c₀ awaited₀ at₀ last regs text io memory disk frame log c awaited at = last - c .age
+μ-loop start regs₀ text₀ io₀ image memory₀ disk₀ frame₀ irq2 budget log₀ table c₀ awaited₀ at₀ stamp₀ last regs text io memory disk frame log c awaited at stamp = last - c .age
 
 first-awaited-requires : tie.Need-first-awaited-requires Inv-loop μ-loop
 first-awaited-requires c κs = c .before .before .before .before .before .before .pre .0 .1
@@ -36,7 +39,7 @@ loop-holds c =
     let s = c .before .before .before .before .before .before .before .before in
     let p = s .pre in
     let none : s .args .start .age - s .args .start .age ≡ 0 = omega arith in
-    (rw none (sets-out _ _ _ _ _ (p .0 .1) _ (c .before .first-awaited .ensures .0)), record { sound = p .0 .0; kept = p .1 .1 .0; sized = p .1 .1 .1 .1 }, refl, refl, refl, refl, omega arith, c .last-age .ensures .1 .0, c .before .first-awaited .ensures .1)
+    (rw none (sets-out _ _ _ _ _ (p .0 .1) _ (c .before .first-awaited .ensures .0)), record { sound = p .0 .0; kept = p .1 .1 .0; sized = p .1 .1 .1 .1 }, refl, refl, refl, refl, omega arith, c .last-age .ensures .1 .0, c .before .first-awaited .ensures .1, no-stamp)
 
 is-awaited-requires : tie.Need-is-awaited-requires Inv-loop μ-loop
 is-awaited-requires c κs = search needs
@@ -79,48 +82,48 @@ returns c =
 
 cycle-requires : tie.Need-cycle-requires Inv-loop μ-loop
 cycle-requires c κs =
-    let a = c .before .before .before .before .before .before .before .before .before .before .before .before .before .before .before .before .before .before .before .before .before .before .before .args in
-    let p = c .before .before .before .before .before .before .before .before .before .before .before .before .before .before .before .before .before .before .before .before .before .before .before .pre in
-    let l = c .before .before .before .before .before .before .before .before .before .before .before .before .before .before .loop in
+    let a = c .before .before .before .before .before .before .before .before .before .before .before .before .before .before .before .before .before .before .before .before .before .before .before .before .args in
+    let p = c .before .before .before .before .before .before .before .before .before .before .before .before .before .before .before .before .before .before .before .before .before .before .before .before .pre in
+    let l = c .before .before .before .before .before .before .before .before .before .before .before .before .before .before .before .loop in
     let t = l .inv .1 in
-    let may = c .before .before .before .before .before .before .before .before .may-cycle in
-    (t .sound, ((p .1 .0, (t .kept, (p .1 .1 .1 .0, t .sized))), has-room (a .image .now) (a .irq2 .now) (packed (a .start) (a .regs .now) (a .io .now) (a .memory .now) (a .disk .now) (a .frame .now)) (a .budget) (a .log .now) (p .0 .1) (l .c .age - a .start .age) (l .at) (l .awaited .place) (packed (l .c) (l .regs) (l .io) (l .memory) (l .disk) (l .frame)) (l .log) (l .inv .0) (c .before .before .before .before .before .before .before .before .before .before .before .is-awaited .result) (hit-at (c .before .before .before .before .before .before .before .before .before .before .before .is-awaited .result) (l .c .age) (l .awaited .place) (l .awaited .cycle) (a .irq2 .now) (omega (arith, l .inv .1 .sound .core .age)) (l .inv .8) (c .before .before .before .before .before .before .before .before .before .before .before .is-awaited .ensures)) (may .result) (not-false (may .result) (c .before .before .before .before .before .before .before .if2 .left)) (may .ensures (l .memory) (l .disk) (l .frame))))
+    let may = c .before .before .before .before .before .before .before .before .before .may-cycle in
+    (t .sound, ((p .1 .0, (t .kept, (p .1 .1 .1 .0, (t .sized, l .inv .9)))), has-room (a .image .now) (a .irq2 .now) (packed (a .start) (a .regs .now) (a .io .now) (a .memory .now) (a .disk .now) (a .frame .now)) (a .budget) (a .log .now) (p .0 .1) (l .c .age - a .start .age) (l .at) (l .awaited .place) (packed (l .c) (l .regs) (l .io) (l .memory) (l .disk) (l .frame)) (l .log) (l .inv .0) (c .before .before .before .before .before .before .before .before .before .before .before .before .is-awaited .result) (hit-at (c .before .before .before .before .before .before .before .before .before .before .before .before .is-awaited .result) (l .c .age) (l .awaited .place) (l .awaited .cycle) (a .irq2 .now) (omega (arith, l .inv .1 .sound .core .age)) (l .inv .8) (c .before .before .before .before .before .before .before .before .before .before .before .before .is-awaited .ensures)) (may .result) (not-false (may .result) (c .before .before .before .before .before .before .before .before .if2 .left)) (may .ensures (l .memory) (l .disk) (l .frame))))
 
 next-awaited-requires : tie.Need-next-awaited-requires Inv-loop μ-loop
 next-awaited-requires c κs =
-    let i = c .before .before .before .before .before .before .before .before .before .before .before .before .before .before .before .before .before .before .before .before .before .before .before .before .loop .inv in
-    (omega (arith, i .0 .place .within, c .before .before .before .before .before .before .before .before .before .before .before .before .before .before .before .before .before .before .before .before .before .before .before .before .before .before .before .before .before .before .before .before .before .good), i .8)
+    let i = c .before .before .before .before .before .before .before .before .before .before .before .before .before .before .before .before .before .before .before .before .before .before .before .before .before .loop .inv in
+    (omega (arith, i .0 .place .within, c .before .before .before .before .before .before .before .before .before .before .before .before .before .before .before .before .before .before .before .before .before .before .before .before .before .before .before .before .before .before .before .before .before .before .good), i .8)
 
 loop-less : tie.Need-loop-less Inv-loop μ-loop
 loop-less c =
-    let a = c .before .before .before .before .before .before .before .before .before .before .before .before .before .before .before .before .before .before .before .before .before .before .before .before .before .before .before .before .before .before .before .before .before .before .args in
-    let l = c .before .before .before .before .before .before .before .before .before .before .before .before .before .before .before .before .before .before .before .before .before .before .before .before .before .loop in
+    let a = c .before .before .before .before .before .before .before .before .before .before .before .before .before .before .before .before .before .before .before .before .before .before .before .before .before .before .before .before .before .before .before .before .before .before .before .args in
+    let l = c .before .before .before .before .before .before .before .before .before .before .before .before .before .before .before .before .before .before .before .before .before .before .before .before .before .before .loop in
     let e = c .before .before .before .before .before .before .before .before .before .before .cycle in
-    let aged = older (a .image .now) (c .before .before .before .before .before .before .before .before .before .before .before .before .before .before .before .before .before .before .before .before .before .before .is-awaited .result) (packed (l .c) (l .regs) (l .io) (l .memory) (l .disk) (l .frame)) (packed (e .result .core) (e .last .1 .1 .0) (e .last .1 .1 .1 .1 .0) (e .last .1 .1 .1 .1 .1 .1 .0) (e .last .1 .1 .1 .1 .1 .1 .1 .0) (e .last .1 .1 .1 .1 .1 .1 .1 .1 .0)) (l .log) (e .last .1 .1 .1 .1 .1 .1 .1 .1 .1 .0) (l .at) (e .result .at) (e .ensures .0) in
-    omega (arith, aged, c .before .before .before .before .before .before .before .before .before .before .before .before .before .before .before .before .before .before .before .before .before .before .before .if1 .taken)
+    let aged = older (a .image .now) (c .before .before .before .before .before .before .before .before .before .before .before .before .before .before .before .before .before .before .before .before .before .before .before .is-awaited .result) (packed (l .c) (l .regs) (l .io) (l .memory) (l .disk) (l .frame)) (packed (e .result .core) (e .last .1 .1 .0) (e .last .1 .1 .1 .1 .0) (e .last .1 .1 .1 .1 .1 .1 .0) (e .last .1 .1 .1 .1 .1 .1 .1 .0) (e .last .1 .1 .1 .1 .1 .1 .1 .1 .0)) (l .log) (e .last .1 .1 .1 .1 .1 .1 .1 .1 .1 .0) (l .at) (e .result .at) (e .ensures .0) in
+    omega (arith, aged, c .before .before .before .before .before .before .before .before .before .before .before .before .before .before .before .before .before .before .before .before .before .before .before .before .if1 .taken)
 
 loop-again : tie.Need-loop-again Inv-loop μ-loop
 loop-again c =
-    let a = c .before .before .before .before .before .before .before .before .before .before .before .before .before .before .before .before .before .before .before .before .before .before .before .before .before .before .before .before .before .before .before .before .before .before .args in
-    let p = c .before .before .before .before .before .before .before .before .before .before .before .before .before .before .before .before .before .before .before .before .before .before .before .before .before .before .before .before .before .before .before .before .before .before .pre in
-    let l = c .before .before .before .before .before .before .before .before .before .before .before .before .before .before .before .before .before .before .before .before .before .before .before .before .before .loop in
+    let a = c .before .before .before .before .before .before .before .before .before .before .before .before .before .before .before .before .before .before .before .before .before .before .before .before .before .before .before .before .before .before .before .before .before .before .before .args in
+    let p = c .before .before .before .before .before .before .before .before .before .before .before .before .before .before .before .before .before .before .before .before .before .before .before .before .before .before .before .before .before .before .before .before .before .before .before .pre in
+    let l = c .before .before .before .before .before .before .before .before .before .before .before .before .before .before .before .before .before .before .before .before .before .before .before .before .before .before .loop in
     let e = c .before .before .before .before .before .before .before .before .before .before .cycle in
     let i = l .inv in
-    let hit = c .before .before .before .before .before .before .before .before .before .before .before .before .before .before .before .before .before .before .before .before .before .before .is-awaited in
+    let hit = c .before .before .before .before .before .before .before .before .before .before .before .before .before .before .before .before .before .before .before .before .before .before .before .is-awaited in
     let here = hit-at (hit .result) (l .c .age) (l .awaited .place) (l .awaited .cycle) (a .irq2 .now) (omega (arith, l .inv .1 .sound .core .age)) (l .inv .8) (hit .ensures) in
-    let may = c .before .before .before .before .before .before .before .before .before .before .before .before .before .before .before .before .before .before .before .may-cycle in
-    let below = c .before .before .before .before .before .before .before .before .before .before .before .before .before .before .before .before .before .before .before .before .before .before .before .if1 .taken in
-    let last = c .before .before .before .before .before .before .before .before .before .before .before .before .before .before .before .before .before .before .before .before .before .before .before .before .before .before .last-age .ensures .1 in
+    let may = c .before .before .before .before .before .before .before .before .before .before .before .before .before .before .before .before .before .before .before .before .may-cycle in
+    let below = c .before .before .before .before .before .before .before .before .before .before .before .before .before .before .before .before .before .before .before .before .before .before .before .before .if1 .taken in
+    let last = c .before .before .before .before .before .before .before .before .before .before .before .before .before .before .before .before .before .before .before .before .before .before .before .before .before .before .before .last-age .ensures .1 in
     let young : l .c .age < 2 ^ 40 - 1 = omega (arith, below, last .1 .1) in
-    let next = turn (a .image .now) (hit .result) (l .c) (e .result .core) (l .regs) (e .last .1 .1 .0) (l .text) (e .last .1 .1 .1 .0) (l .io) (e .last .1 .1 .1 .1 .0) (l .memory) (e .last .1 .1 .1 .1 .1 .1 .0) (l .disk) (e .last .1 .1 .1 .1 .1 .1 .1 .0) (l .frame) (e .last .1 .1 .1 .1 .1 .1 .1 .1 .0) (l .log) (e .last .1 .1 .1 .1 .1 .1 .1 .1 .1 .0) (l .at) (e .result .at) (i .1) young (e .ensures .1) (e .ensures .0) in
+    let next = turn (a .image .now) (hit .result) (l .c) (e .result .core) (l .regs) (e .last .1 .1 .0) (l .text) (e .last .1 .1 .1 .0) (l .io) (e .last .1 .1 .1 .1 .0) (l .memory) (e .last .1 .1 .1 .1 .1 .1 .0) (l .disk) (e .last .1 .1 .1 .1 .1 .1 .1 .0) (l .frame) (e .last .1 .1 .1 .1 .1 .1 .1 .1 .0) (l .log) (e .last .1 .1 .1 .1 .1 .1 .1 .1 .1 .0) (l .at) (e .result .at) (i .1) young (e .ensures .1 .0) (e .ensures .0) in
     let aged = older (a .image .now) (hit .result) (packed (l .c) (l .regs) (l .io) (l .memory) (l .disk) (l .frame)) (packed (e .result .core) (e .last .1 .1 .0) (e .last .1 .1 .1 .1 .0) (e .last .1 .1 .1 .1 .1 .1 .0) (e .last .1 .1 .1 .1 .1 .1 .1 .0) (e .last .1 .1 .1 .1 .1 .1 .1 .1 .0)) (l .log) (e .last .1 .1 .1 .1 .1 .1 .1 .1 .1 .0) (l .at) (e .result .at) (e .ensures .0) in
     let from = i .6 in
     let counted : e .result .core .age - a .start .age ≡ l .c .age - a .start .age + 1 = omega (arith, aged, from) in
-    let round = goes-round (a .image .now) (a .irq2 .now) (packed (a .start) (a .regs .now) (a .io .now) (a .memory .now) (a .disk .now) (a .frame .now)) (a .budget) (a .log .now) (p .0 .1) (l .c .age - a .start .age) (l .at) (l .awaited .place) (packed (l .c) (l .regs) (l .io) (l .memory) (l .disk) (l .frame)) (l .log) (l .inv .0) (hit .result) here (may .result) (not-false (may .result) (c .before .before .before .before .before .before .before .before .before .before .before .before .before .before .before .before .before .before .if2 .left)) (may .ensures (l .memory) (l .disk) (l .frame)) (omega (arith, below, last .1 .0, from)) (packed (e .result .core) (e .last .1 .1 .0) (e .last .1 .1 .1 .1 .0) (e .last .1 .1 .1 .1 .1 .1 .0) (e .last .1 .1 .1 .1 .1 .1 .1 .0) (e .last .1 .1 .1 .1 .1 .1 .1 .1 .0)) (e .last .1 .1 .1 .1 .1 .1 .1 .1 .1 .0) (e .result .at) (e .ensures .0) (c .next-awaited .result .place) (c .next-awaited .ensures .0) in
+    let round = goes-round (a .image .now) (a .irq2 .now) (packed (a .start) (a .regs .now) (a .io .now) (a .memory .now) (a .disk .now) (a .frame .now)) (a .budget) (a .log .now) (p .0 .1) (l .c .age - a .start .age) (l .at) (l .awaited .place) (packed (l .c) (l .regs) (l .io) (l .memory) (l .disk) (l .frame)) (l .log) (l .inv .0) (hit .result) here (may .result) (not-false (may .result) (c .before .before .before .before .before .before .before .before .before .before .before .before .before .before .before .before .before .before .before .if2 .left)) (may .ensures (l .memory) (l .disk) (l .frame)) (omega (arith, below, last .1 .0, from)) (packed (e .result .core) (e .last .1 .1 .0) (e .last .1 .1 .1 .1 .0) (e .last .1 .1 .1 .1 .1 .1 .0) (e .last .1 .1 .1 .1 .1 .1 .1 .0) (e .last .1 .1 .1 .1 .1 .1 .1 .1 .0)) (e .last .1 .1 .1 .1 .1 .1 .1 .1 .1 .0) (e .result .at) (e .ensures .0) (c .next-awaited .result .place) (c .next-awaited .ensures .0) in
     let same : length (e .last .1 .1 .1 .1 .1 .1 .1 .1 .1 .0) ≡ length (l .log) = omega (arith, e .kept) in
     let z = next .sized in
     let y = i .1 .sized in
-    (rw counted round, next, same ∙ i .2, z .memory-size ∙ sym (y .memory-size) ∙ i .3, z .disk-size ∙ sym (y .disk-size) ∙ i .4, z .frame-size ∙ sym (y .frame-size) ∙ i .5, omega (arith, aged, from), omega (arith, aged, below), c .next-awaited .ensures .1)
+    (rw counted round, next, same ∙ i .2, z .memory-size ∙ sym (y .memory-size) ∙ i .3, z .disk-size ∙ sym (y .disk-size) ∙ i .4, z .frame-size ∙ sym (y .frame-size) ∙ i .5, omega (arith, aged, from), omega (arith, aged, below), c .next-awaited .ensures .1, e .ensures .1 .1)
 
 sub-ended-2 : tie.Need-sub-ended-2 Inv-loop μ-loop
 sub-ended-2 c = c .before .before .before .before .loop .inv .6

@@ -36,7 +36,7 @@ put-lines-requires c κs =
     let e = c .before .before .before .before .read-operands .ensures (a .c) (a .io .now) (a .memory .now) (a .disk .now) (a .frame .now) in (
       (
         rw (lines-are (a .image .now) (a .c) (a .regs .now) _ (a .io .now) (a .memory .now) (a .disk .now) (a .frame .now) _ (f .result) _ refl (f .ensures) e) (p .1 .1),
-        (kept-immediates (f .result) (a .c) (a .regs .now) _ (a .text .now) (a .io .now) (a .memory .now) (a .disk .now) (a .frame .now) (p .1 .0 .0) (e .1), p .1 .0 .1 .0),
+        (kept-immediates (f .result) (a .c) (a .regs .now) _ (a .text .now) (a .io .now) (a .memory .now) (a .disk .now) (a .frame .now) (p .1 .0 .0) (e .1), (p .1 .0 .1 .0, p .0 .1 .1)),
       ),
       immediates-are (a .image .now) (a .c) (a .regs .now) _ (a .io .now) (a .memory .now) (a .disk .now) (a .frame .now) _ (f .result) _ refl (f .ensures) e,
     )

@@ -18,7 +18,7 @@ put-line-t-requires c κs =
     let p = c .before .before .pre .0 in
     let room = rw length-append at (p .0) in
     let line = length-T (a .c .pc) (a .word) (a .regs .now) in
-    (omega (arith, room, line, p .1 .0 .sixteen), (kept-length (p .1 .0), p .1 .1))
+    (omega (arith, room, line, p .1 .0 .sixteen), (kept-length (p .1 .0), p .1 .1 .0))
 
 put-io-lines-requires : tie.Need-put-io-lines-requires
 put-io-lines-requires c κs =

@@ -1,61 +1,49 @@
 -- `trace::log_lines::put_instruction` meets its contract.
-use mathlib.Core.Path.{_∙_}
-use native.Mathlib.Omega.{arith}
-use lib.ListN.{length-set}
-use borrow.Author.Needs.{needs}
 use Rattle.trace.proofs.LineLaws.{instruction-laid}
+use borrow.Author.Needs.{needs}
 use Rattle.trace.proofs.log_lines.put_instruction.Statement.{statement}
 use Rattle.trace.proofs.log_lines.put_instruction.Tie as tie
 
-slice-write-out : tie.Need-slice-write-out
-slice-write-out c = search needs
+front-digits-requires : tie.Need-front-digits-requires
+front-digits-requires c κs = search needs
 
-add-out : tie.Need-add-out
-add-out c = search needs
+put-eight-requires : tie.Need-put-eight-requires
+put-eight-requires c κs = search needs
 
-slice-write-out-2 : tie.Need-slice-write-out-2
-slice-write-out-2 c = simp length-set (omega arith)
+add-put-hex-byte : tie.Need-add-put-hex-byte
+add-put-hex-byte c = search needs
 
-add-put-pc : tie.Need-add-put-pc
-add-put-pc c = search needs
+put-hex-byte-requires : tie.Need-put-hex-byte-requires
+put-hex-byte-requires c κs = search needs
 
-put-pc-requires : tie.Need-put-pc-requires
-put-pc-requires c κs = (simp length-set (omega arith), c .before .before .pre .1 .0)
+add-put-eight : tie.Need-add-put-eight
+add-put-eight c = search needs
 
-add-out-2 : tie.Need-add-out-2
-add-out-2 c = search needs
-
-slice-write-out-3 : tie.Need-slice-write-out-3
-slice-write-out-3 c = let k = simp length-set at (c .before .before .put-pc .kept .0) in omega arith
-
-add-put-code : tie.Need-add-put-code
-add-put-code c = search needs
-
-put-code-requires : tie.Need-put-code-requires
-put-code-requires c κs =
-    let k = simp length-set at (c .before .before .before .put-pc .kept .0) in
-    (simp length-set (omega arith), c .before .before .before .before .before .before .pre .1)
+put-eight-requires-2 : tie.Need-put-eight-requires-2
+put-eight-requires-2 c κs = search needs
 
 same-length : tie.Need-same-length
-same-length c = (simp length-set at (c .before .before .put-code .kept .0)) ∙ (simp length-set at (c .before .before .before .before .before .before .put-pc .kept .0))
+same-length c = search needs
 
 returns : tie.Need-returns
 returns c =
-    let a = c .before .before .before .before .before .before .before .before .before .args in
-    instruction-laid (a .pc) (a .word) (a .at) (a .out .now) _ _ (c .before .before .before .before .before .before .put-pc .ensures) (c .before .before .put-code .ensures)
+    let a = c .before .before .before .before .before .before .before .before .before .before .before .before .before .before .args in
+    let p = c .before .before .before .before .before .before .before .before .before .before .before .before .before .before .pre in
+    let first = c .before .before .before .before .before .before .before .before .before .before .put-eight .ensures in
+    let digits = c .before .before .before .before .before .before .before .before .before .before .before .front-digits .ensures in
+    let next = c .before .before .before .before .before .before .put-hex-byte .ensures in
+    let last = c .before .before .put-eight2 .ensures in
+    instruction-laid (a .pc) (a .word) (a .at) (a .out .now) _ _ _ (rw digits at first) next (rw (p .1 .1) at last)
 
 pub put-instruction-spec : {M : Type 1} → statement M
 put-instruction-spec =
     tie.close
     (tie.spec
-    slice-write-out
-    add-out
-    slice-write-out-2
-    add-put-pc
-    put-pc-requires
-    add-out-2
-    slice-write-out-3
-    add-put-code
-    put-code-requires
+    front-digits-requires
+    put-eight-requires
+    add-put-hex-byte
+    put-hex-byte-requires
+    add-put-eight
+    put-eight-requires-2
     same-length
     returns)

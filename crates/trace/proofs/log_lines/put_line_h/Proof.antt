@@ -8,7 +8,7 @@ use Rattle.trace.proofs.log_lines.put_line_h.Statement.{statement}
 use Rattle.trace.proofs.log_lines.put_line_h.Tie as tie
 
 hex-word-requires : tie.Need-hex-word-requires
-hex-word-requires c κs = c .before .pre .1
+hex-word-requires c κs = c .before .pre .1 .0
 
 put-cycle-requires : tie.Need-put-cycle-requires
 put-cycle-requires c κs =
@@ -21,13 +21,13 @@ put-bytes-requires : tie.Need-put-bytes-requires
 put-bytes-requires c κs =
     let s = c .before .before .before .before .before .before .before .before .before in
     let room = rw (c .before .before .if1 .taken) at (rw length-H at (s .pre .0)) in
-    omega (arith, room, c .before .before .before .before .before .put-cycle .ensures .1)
+    omega (arith, room, c .before .before .before .before .before .put-cycle .ensures .0)
 
 put-named-digits-requires : tie.Need-put-named-digits-requires
 put-named-digits-requires c κs =
     let s = c .before .before .before .before .before .before .before .before .before .before .before .before .before in
     let room = rw (c .before .before .before .before .before .before .if1 .taken) at (rw length-H at (s .pre .0)) in
-    omega (arith, room, c .before .before .before .before .before .before .before .before .before .put-cycle .ensures .1, c .before .before .before .put-bytes .ensures .1)
+    omega (arith, room, c .before .before .before .before .before .before .before .before .before .put-cycle .ensures .0, c .before .before .before .put-bytes .ensures .1)
 
 same-length : tie.Need-same-length
 same-length c = search needs
@@ -40,7 +40,7 @@ returns c =
     let way = c .before .before .before .before .before .before .put-bytes .ensures in
     let value = c .before .before .put-named-digits .ensures in
     rw (c .before .before .before .before .before .before .before .before .before .if1 .taken)
-    (line-h-laid (a .c) (a .n) (a .x) (a .at) _ _ (bytes "WRITE") (a .out .now) _ _ _ (cycle .1) (omega (arith, way .1)) (cycle .0) (way .0) (rw held at (value .0)), rw length-H (omega (arith, cycle .1, way .1, value .1)))
+    (line-h-laid (a .c) (a .n) (a .x) (a .at) _ _ (bytes "WRITE") (a .out .now) _ _ _ (omega (arith, way .1)) (cycle .1) (way .0) (rw held at (value .0)), rw length-H (omega (arith, cycle .0, way .1, value .1)))
 
 slice-aggregate-put-bytes-2 : tie.Need-slice-aggregate-put-bytes-2
 slice-aggregate-put-bytes-2 c = search needs
@@ -49,13 +49,13 @@ put-bytes-requires-2 : tie.Need-put-bytes-requires-2
 put-bytes-requires-2 c κs =
     let s = c .before .before .before .before .before .before .before .before .before in
     let room = rw (c .before .before .if1 .left) at (rw length-H at (s .pre .0)) in
-    omega (arith, room, c .before .before .before .before .before .put-cycle .ensures .1)
+    omega (arith, room, c .before .before .before .before .before .put-cycle .ensures .0)
 
 put-named-digits-requires-2 : tie.Need-put-named-digits-requires-2
 put-named-digits-requires-2 c κs =
     let s = c .before .before .before .before .before .before .before .before .before .before .before .before .before in
     let room = rw (c .before .before .before .before .before .before .if1 .left) at (rw length-H at (s .pre .0)) in
-    omega (arith, room, c .before .before .before .before .before .before .before .before .before .put-cycle .ensures .1, c .before .before .before .put-bytes2 .ensures .1)
+    omega (arith, room, c .before .before .before .before .before .before .before .before .before .put-cycle .ensures .0, c .before .before .before .put-bytes2 .ensures .1)
 
 same-length-2 : tie.Need-same-length-2
 same-length-2 c = search needs
@@ -68,7 +68,7 @@ returns-2 c =
     let way = c .before .before .before .before .before .before .put-bytes2 .ensures in
     let value = c .before .before .put-named-digits2 .ensures in
     rw (c .before .before .before .before .before .before .before .before .before .if1 .left)
-    (line-h-laid (a .c) (a .n) (a .x) (a .at) _ _ (bytes "READ") (a .out .now) _ _ _ (cycle .1) (omega (arith, way .1)) (cycle .0) (way .0) (rw held at (value .0)), rw length-H (omega (arith, cycle .1, way .1, value .1)))
+    (line-h-laid (a .c) (a .n) (a .x) (a .at) _ _ (bytes "READ") (a .out .now) _ _ _ (omega (arith, way .1)) (cycle .1) (way .0) (rw held at (value .0)), rw length-H (omega (arith, cycle .0, way .1, value .1)))
 
 pub put-line-h-spec : {M : Type 1} → statement M
 put-line-h-spec =

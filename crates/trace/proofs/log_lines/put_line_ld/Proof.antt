@@ -7,7 +7,7 @@ use Rattle.trace.proofs.log_lines.put_line_ld.Statement.{statement}
 use Rattle.trace.proofs.log_lines.put_line_ld.Tie as tie
 
 hex-word-requires : tie.Need-hex-word-requires
-hex-word-requires c κs = c .before .pre .1
+hex-word-requires c κs = c .before .pre .1 .0
 
 put-cycle-requires : tie.Need-put-cycle-requires
 put-cycle-requires c κs = let room = simp length-LD at (c .before .before .before .pre .0) in (omega arith, c .before .before .before .pre .1)
@@ -27,7 +27,7 @@ returns c =
     let cycle = c .before .before .before .before .before .before .put-cycle .ensures in
     let value = c .before .before .put-last-digits .ensures in
     let held = c .before .before .before .before .before .before .before .before .hex-word .ensures in
-    (line-ld-laid (a .letter) (a .c) (a .x) (a .at) _ (a .out .now) _ _ (cycle .1) (cycle .0) (rw held at (value .0)), rw length-LD (omega arith))
+    (line-ld-laid (a .letter) (a .c) (a .x) (a .at) _ (a .out .now) _ _ (cycle .1) (rw held at (value .0)), rw length-LD (omega arith))
 
 pub put-line-ld-spec : {M : Type 1} → statement M
 put-line-ld-spec =

@@ -1,4 +1,5 @@
 -- Laws that belong to no one function.
 pub mod RunLaws
 pub mod PieceLaws
+pub mod SplitLaws
 pub mod CycleLaws

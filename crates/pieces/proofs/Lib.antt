@@ -2,3 +2,4 @@
 pub mod RunLaws
 pub mod PieceLaws
 pub mod CycleLaws
+pub mod FileLaws

@@ -1,10 +1,14 @@
 // Words of a memory.
+ghost use mathlib.Core.Path.{_≡_};
 ghost use Prim.Native.Nat.{_≤_, _<_};
-ghost use lib.ListN.{length};
+ghost use lib.ListN.{length, replicate};
+ghost use Rattle.text.specs.Same.{same};
 ghost use Rattle.io.specs.Counts.{Counts};
 
 // Whether every word is this one.
-pub fn are_all(words: &[u32], word: u32) -> bool {
+pub fn are_all(words: &[u32], word: u32) -> bool
+    ensures { λ r. ⌜ r ≡ same (now (words .entry)) (replicate (length (now (words .entry))) word) ⌝ }
+{
     let mut i = 0;
     while i < words.len() {
         if words[i] != word {
@@ -16,7 +20,9 @@ pub fn are_all(words: &[u32], word: u32) -> bool {
 }
 
 // Whether every word of an image is this one.
-pub fn are_all_long(words: &[u64], word: u64) -> bool {
+pub fn are_all_long(words: &[u64], word: u64) -> bool
+    ensures { λ r. ⌜ r ≡ same (now (words .entry)) (replicate (length (now (words .entry))) word) ⌝ }
+{
     let mut i = 0;
     while i < words.len() {
         if words[i] != word {
@@ -28,7 +34,9 @@ pub fn are_all_long(words: &[u64], word: u64) -> bool {
 }
 
 // Whether two images have the same words.
-pub fn are_same(a: &[u64], b: &[u64]) -> bool {
+pub fn are_same(a: &[u64], b: &[u64]) -> bool
+    ensures { λ r. ⌜ r ≡ same (now (a .entry)) (now (b .entry)) ⌝ }
+{
     if a.len() != b.len() {
         return false;
     }

@@ -7,7 +7,8 @@ use native.Mathlib.Omega.{arith}
 use native.Mathlib.Numerals.{add-one}
 use native.Mathlib.Nat.{add-zero, zero-add}
 use lib.ListN.{length, getD, set}
-use Rattle.source.specs.Numbers.{same, number}
+use Rattle.source.specs.Numbers.{number}
+use Rattle.text.specs.Same.{same}
 use Rattle.source.specs.Lookup.{isAmong, placeOf}
 use Rattle.lines.specs.Line.{formOf, isRight, hasLabel, hasCode, hasWord, labelOf, part}
 use Rattle.lines.specs.Ranges.{modulo}

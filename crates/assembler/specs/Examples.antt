@@ -12,7 +12,8 @@ use Rattle.isa.specs.Operations.{operationNames}
 use Rattle.isa.specs.Registers.{registerNames}
 use Rattle.source.specs.Bytes.{all, areRightBytes}
 use Rattle.source.specs.Tokens.{tokensFrom}
-use Rattle.source.specs.Numbers.{same, number}
+use Rattle.source.specs.Numbers.{number}
+use Rattle.text.specs.Same.{same}
 use Rattle.source.specs.Names.{isName, isRegister, isDefinition}
 use Rattle.source.specs.Shapes.{fits, matches, firstShape}
 use Rattle.source.specs.Lookup.{isAmong, placeOf}

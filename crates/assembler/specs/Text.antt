@@ -2,7 +2,7 @@
 use Prim.Native.Nat.{ℕ, suc, _+_}
 use mathlib.Core.Bool.{Bool, true, cond, _&&_}
 use mathlib.Core.List.{List, [], _∷_}
-use Rattle.source.specs.Numbers.{same}
+use Rattle.text.specs.Same.{same}
 use Rattle.lines.specs.Line.{formOf, isRight, hasLabel, hasCode, labelOf}
 
 -- How many instructions lines have.

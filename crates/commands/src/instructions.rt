@@ -1,45 +1,37 @@
-// Instructions of a program that is accepted.
-use text::lines::LF;
-ghost use Prim.Native.Nat.{_≤_};
+// Instructions of a program.
+use lines::Form;
+use lines::forms::PLACES;
+use lines::forms::has_code;
+use lines::forms::line_form;
+use text::digits::digit_values;
+use text::lines::line_end;
+ghost use mathlib.Core.Bool.{cond};
+ghost use mathlib.Core.Path.{_≡_};
+ghost use Rattle.text.specs.Lines.{lines};
+ghost use Rattle.lines.specs.Line.{hasCode};
+ghost use Rattle.assembler.specs.Text.{codeCount};
 
-// How many instructions an accepted program has: each has five commas, and no other line has one before its comment.
-pub fn count_instructions(text: &[u8]) -> usize {
-    count_commas(text) / 5
-}
-
-// How many commas stand outside comments, which go from `#` to the end of the line.
-fn count_commas(text: &[u8]) -> usize {
+// How many instructions a program has: as many as it has lines with one.
+pub fn count_instructions(text: &[u8]) -> usize
+    ensures { λ r. ⌜ r ≡ codeCount (lines (now (text .entry))) ⌝ }
+{
+    let values = digit_values();
+    let mut places = [0usize; PLACES];
+    let mut p = 0;
     let mut n = 0;
-    let mut is_comment = false;
-    let mut i = 0;
-    while i < text.len() {
-        let b = text[i];
-        is_comment = goes_on(is_comment, b);
-        n += comma(is_comment, b);
-        i += 1;
+    while p < text.len() {
+        let e = line_end(text, p);
+        n += codes(line_form(&text[p..e], &mut places, &values));
+        p = e + 1;
     }
     n
 }
 
-// Whether a comment starts or goes on at this byte.
-fn goes_on(is_comment: bool, b: u8) -> bool {
-    if b == LF {
-        return false;
-    }
-    if b == b'#' {
-        return true;
-    }
-    is_comment
-}
-
-// 1 for a comma outside a comment, else 0.
-fn comma(is_comment: bool, b: u8) -> usize
-    ensures { λ r. ⌜ r ≤ 1 ⌝ }
+// How many instructions a line of a form has.
+fn codes(f: Form) -> usize
+    ensures { λ r. ⌜ r ≡ cond (hasCode f) 1 0 ⌝ }
 {
-    if is_comment {
-        return 0;
-    }
-    if b == b',' {
+    if has_code(f) {
         return 1;
     }
     0

@@ -1,8 +1,8 @@
 // Files compared.
 use console::say;
 use memories::Count;
-use memories::are_same;
 use memories::read_front;
+use text::same::are_same;
 ghost use Rattle.io.specs.Counts.{Counts};
 
 // Room for the longest file that is compared.

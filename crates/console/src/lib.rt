@@ -28,9 +28,9 @@ pub use write::abandon_file;
 pub use write::begin_file;
 pub use write::drop_file;
 pub use write::end_file;
+pub use write::is_no_file;
 pub use write::keep_file;
 pub use write::stage_file;
-pub use write::write_file;
 
 // A file that is being written.
 pub struct Writing {

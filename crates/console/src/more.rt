@@ -5,13 +5,17 @@ use crate::old::old_file;
 use crate::write::abandon_file;
 use crate::write::begin_new;
 use crate::write::begin_through;
+use crate::write::is_no_file;
 use crate::write::not_written;
+ghost use Rattle.console.specs.Writings.{Begun};
 
 // The most reads of a file that is copied.
 const MOST_READS: u64 = 0xFFFF_FFFF_FFFF_FFFF;
 
 // Begins a file that has what the old one has, where there is one, and is open to have more; or says that it is not written.
-pub fn begin_more(path: &[u8]) -> Writing {
+pub fn begin_more(path: &[u8]) -> Writing
+    ensures { λ r. ⌜ Begun r ⌝ }
+{
     match old_file(path) {
         Old::File => begin_copy(path),
         Old::Other => begin_through(path, os::open_append(path)),
@@ -20,9 +24,11 @@ pub fn begin_more(path: &[u8]) -> Writing {
 }
 
 // Begins a new file that has what the old one has.
-fn begin_copy(path: &[u8]) -> Writing {
+fn begin_copy(path: &[u8]) -> Writing
+    ensures { λ r. ⌜ Begun r ⌝ }
+{
     let w = begin_new(path);
-    if w.fd < 0 {
+    if is_no_file(w) {
         return w;
     }
     if copy_old(path, w.fd) {

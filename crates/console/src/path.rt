@@ -1,10 +1,16 @@
 // Paths.
 use libc::PATH_MAX;
 use text::place::put_bytes;
+ghost use mathlib.Core.Path.{_≡_};
+ghost use mathlib.Core.Bool.{true};
+ghost use Prim.Native.Nat.{_<_};
+ghost use lib.ListN.{length};
 ghost use Rattle.io.specs.Counts.{Counts};
 
-// Whether a path names a link, and not what the link leads to.
-pub fn is_link(path: &[u8]) -> bool {
+// Whether a path names a link, and not what the link leads to. One that is too long for a path names none.
+pub fn is_link(path: &[u8]) -> bool
+    ensures { λ r. ⌜ (r ≡ true → length (now (path .entry)) < 4096) ⌝ }
+{
     if PATH_MAX <= path.len() {
         return false;
     }
@@ -15,8 +21,10 @@ pub fn is_link(path: &[u8]) -> bool {
     0 <= libc::readlink(&ended, &mut target)
 }
 
-// Whether there is nothing at a path. It is not opened by this.
-pub fn is_missing(path: &[u8]) -> bool {
+// Whether there is nothing at a path. It is not opened by this. Of one that is too long for a path the answer is no.
+pub fn is_missing(path: &[u8]) -> bool
+    ensures { λ r. ⌜ (r ≡ true → length (now (path .entry)) < 4096) ⌝ }
+{
     if PATH_MAX <= path.len() {
         return false;
     }

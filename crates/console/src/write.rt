@@ -4,18 +4,16 @@ use crate::old::Old;
 use crate::old::old_file;
 use crate::output::say_of;
 use crate::path::put_new_path;
+ghost use mathlib.Core.Path.{_≡_};
+ghost use Rattle.console.specs.Writings.{noFile, isNoFile, through, Begun, BegunNew, Ended, Kept};
 
-// Writes a file and answers whether it is there then. Where it can't be written, the old one stays, standard error tells why and standard output
-// that it is not written.
-pub fn write_file(path: &[u8], bytes: &[u8]) -> bool {
-    let w = stage_file(path, bytes);
-    keep_file(path, w)
-}
-
-// Writes all of a file, which `keep_file` puts into its place, or `drop_file` removes; or says that it is not written.
-pub fn stage_file(path: &[u8], bytes: &[u8]) -> Writing {
+// Writes all of a file, which `keep_file` puts into its place, or `drop_file` removes. Where it can't be written, the old one stays, standard error
+// tells why and standard output that it is not written.
+pub fn stage_file(path: &[u8], bytes: &[u8]) -> Writing
+    ensures { λ r. ⌜ Begun r ⌝ }
+{
     let w = begin_file(path);
-    if w.fd < 0 {
+    if is_no_file(w) {
         return w;
     }
     if io::write_all(w.fd, bytes) {
@@ -27,7 +25,9 @@ pub fn stage_file(path: &[u8], bytes: &[u8]) -> Writing {
 }
 
 // Begins a file, which is open then; or says that it is not written.
-pub fn begin_file(path: &[u8]) -> Writing {
+pub fn begin_file(path: &[u8]) -> Writing
+    ensures { λ r. ⌜ Begun r ⌝ }
+{
     match old_file(path) {
         Old::File => begin_new(path),
         Old::Other => begin_through(path, os::open_overwrite(path)),
@@ -36,7 +36,9 @@ pub fn begin_file(path: &[u8]) -> Writing {
 }
 
 // Goes on with what stands at a path, and keeps it: a link, a device or a pipe.
-pub fn begin_through(path: &[u8], fd: i32) -> Writing {
+pub fn begin_through(path: &[u8], fd: i32) -> Writing
+    ensures { λ r. ⌜ r ≡ through fd ⌝ }
+{
     if fd < 0 {
         return not_written(path, path);
     }
@@ -47,7 +49,9 @@ pub fn begin_through(path: &[u8], fd: i32) -> Writing {
 }
 
 // Begins a new file beside the old one. One that a stopped program left there is removed first.
-pub fn begin_new(path: &[u8]) -> Writing {
+pub fn begin_new(path: &[u8]) -> Writing
+    ensures { λ r. ⌜ BegunNew r ⌝ }
+{
     let mut room = io::buffer();
     let n = put_new_path(path, &mut room);
     let fd = create_anew(&room[..n]);
@@ -74,7 +78,9 @@ fn create_anew(path: &[u8]) -> i32 {
 }
 
 // Closes a file. Where that fails, removes it if it is new, and says that it is not written.
-pub fn end_file(path: &[u8], w: Writing) -> Writing {
+pub fn end_file(path: &[u8], w: Writing) -> Writing
+    ensures { λ r. ⌜ Ended w r ⌝ }
+{
     if libc::close(w.fd) < 0 {
         let failed = not_written(path, path);
         drop_file(path, w);
@@ -85,7 +91,7 @@ pub fn end_file(path: &[u8], w: Writing) -> Writing {
 
 // Closes a file that is not whole, and removes it if it is new. One that was not begun is left alone.
 pub fn abandon_file(path: &[u8], w: Writing) {
-    if w.fd < 0 {
+    if is_no_file(w) {
         return;
     }
     libc::close(w.fd);
@@ -93,13 +99,20 @@ pub fn abandon_file(path: &[u8], w: Writing) {
 }
 
 // Puts a new file that is closed into the place of the old one, and answers whether the file is there then.
-pub fn keep_file(path: &[u8], w: Writing) -> bool {
-    if w.fd < 0 {
+pub fn keep_file(path: &[u8], w: Writing) -> bool
+    ensures { λ r. ⌜ Kept w r ⌝ }
+{
+    if is_no_file(w) {
         return false;
     }
-    if !w.is_new {
-        return true;
+    if w.is_new {
+        return replace_old(path);
     }
+    true
+}
+
+// Puts a new file into the place of the old one, and answers whether it is there then.
+fn replace_old(path: &[u8]) -> bool {
     let mut room = io::buffer();
     let n = put_new_path(path, &mut room);
     if os::rename(&room[..n], path) < 0 {
@@ -112,7 +125,7 @@ pub fn keep_file(path: &[u8], w: Writing) -> bool {
 
 // Removes a new file that is closed; the old one stays.
 pub fn drop_file(path: &[u8], w: Writing) {
-    if w.fd < 0 {
+    if is_no_file(w) {
         return;
     }
     if !w.is_new {
@@ -124,11 +137,20 @@ pub fn drop_file(path: &[u8], w: Writing) {
 }
 
 // Says why the last call failed, of what, and that a file is not written.
-pub fn not_written(what: &[u8], path: &[u8]) -> Writing {
+pub fn not_written(what: &[u8], path: &[u8]) -> Writing
+    ensures { λ r. ⌜ r ≡ noFile ⌝ }
+{
     os::fail(what);
     say_of(path, b": can't be written\n");
     Writing {
         fd: -1,
         is_new: false,
     }
+}
+
+// Whether a file can't be written.
+pub fn is_no_file(w: Writing) -> bool
+    ensures { λ r. ⌜ r ≡ isNoFile w ⌝ }
+{
+    w.fd < 0
 }

@@ -14,7 +14,7 @@ use Rattle.source.specs.declared.Span.{Span}
 use Rattle.source.specs.Bytes.{areRightBytes, isLetter, isLetterOrDigit, all}
 use Rattle.source.specs.Tokens.{tokens, tokensFrom, texts}
 use Rattle.source.specs.Spans.{TokenAt}
-use Rattle.source.specs.Numbers.{same}
+use Rattle.text.specs.Same.{same}
 use Rattle.source.specs.Names.{isName, defined, isDefinition}
 use Rattle.source.specs.Shapes.{fits, matches, firstShape}
 use Rattle.lines.specs.declared.Form.{Form}

@@ -14,7 +14,7 @@ use Rattle.isa.specs.Word.{wordOf, Fitting}
 use Rattle.isa.specs.Operations.{operationNames}
 use Rattle.isa.specs.Registers.{registerNames}
 use Rattle.source.specs.Tokens.{tokensFrom, tokens, texts}
-use Rattle.source.specs.Numbers.{same}
+use Rattle.text.specs.Same.{same}
 use Rattle.source.specs.Lookup.{isAmong, placeOf}
 use Rattle.symbols.specs.Table.{namesOf}
 use Rattle.symbols.specs.Sound.{Sound, Found}

@@ -8,7 +8,8 @@ use Rattle.text.specs.Bytes.{bytes}
 use Rattle.text.specs.Numerals.{allDigits, value}
 use Rattle.source.specs.Bytes.{all, areRightBytes}
 use Rattle.source.specs.Tokens.{tokensFrom}
-use Rattle.source.specs.Numbers.{same, number}
+use Rattle.source.specs.Numbers.{number}
+use Rattle.text.specs.Same.{same}
 use Rattle.source.specs.Names.{isName, isRegister, isDefinition}
 use Rattle.source.specs.Shapes.{fits, matches, firstShape}
 use Rattle.lines.specs.declared.Form.{Form}

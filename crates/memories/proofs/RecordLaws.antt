@@ -1,18 +1,25 @@
--- The record that reading hands back is sound. Assumes nothing.
+-- The record that reading hands back is sound, and what is refused is not. Assumes nothing.
 use Prim.Native.Nat.{ℕ}
-use mathlib.Core.Path.{_≡_, refl}
+use mathlib.Core.Path.{_≡_, refl, sym, _∙_, ap}
 use mathlib.Core.Bool.{Bool, true, false}
 use mathlib.Core.List.{List, [], _∷_}
+use native.Mathlib.Omega.{arith}
 use lib.Dec.{eqb}
 use lib.ListN.{length, getD}
-use Rattle.text.specs.Questions.{accepted, firstNo, unlessRefused}
+use Rattle.text.specs.Questions.{Told, accepted, firstNo, unlessRefused}
+use Rattle.text.proofs.QuestionLaws.{first-yes}
 use Rattle.machine.specs.declared.Record.{Record}
 use Rattle.machine.specs.Soundness.{Sound}
 use Rattle.machine.proofs.SoundLaws.{sound-fresh}
 use Rattle.saved.specs.Sound.{isSound}
 use Rattle.saved.specs.Layout.{edition, recordBytes, recordOf, savedFields}
-use Rattle.saved.specs.Calls.{freshRecord, loadRecord}
+use Rattle.saved.specs.Calls.{freshRecord, saveTold, loadTold, loadRecord}
+use Rattle.saved.specs.declared.LoadAnswer.{LoadAnswer}
+use Rattle.saved.specs.declared.LoadAnswer.the-variants.{Loaded, WrongLength, OtherEdition, Unsound}
+use Rattle.saved.specs.Answers.{loadedTold}
 use Rattle.saved.proofs.SoundTest.{sound-yes}
+use Rattle.memories.specs.declared.RecordRead.{RecordRead}
+use Rattle.memories.specs.Records.{SoundRead, FreshRead}
 
 abbrev IsSound : Record → Type 0
 IsSound r = Sound (r .core) (r .regs) (r .io)
@@ -26,3 +33,28 @@ asked true true true r e = sound-yes r e
 
 pub loaded-sound : (state : Record) (bytes : List ℕ) → state ≡ loadRecord bytes → IsSound state
 loaded-sound state bytes e = rw e (asked (eqb (length bytes) recordBytes) (eqb (getD (savedFields bytes) 0 0) edition) _ (recordOf (savedFields bytes)) refl)
+
+-- ---- a record that is read
+
+accepts : (a : LoadAnswer) → loadedTold a .number ≡ 0 → loadedTold a ≡ accepted 0
+accepts Loaded e = refl
+accepts WrongLength e = absurd (omega arith)
+accepts OtherEdition e = absurd (omega arith)
+accepts Unsound e = absurd (omega arith)
+
+pub record-read : (state : Record) (bytes : List ℕ) (a : LoadAnswer) → (loadedTold a ≡ loadTold bytes) × (state ≡ loadRecord bytes) → loadedTold a .number ≡ 0
+    → SoundRead (record { state = state; «is_read» = true })
+record-read state bytes a (told, is) none =
+    record { sound = loaded-sound state bytes is; loaded = record { bytes = bytes; told = sym told ∙ accepts a none; is = is } }
+
+-- The fresh one.
+pub fresh-read : (r : RecordRead) → FreshRead false r → SoundRead r
+fresh-read r fresh = record { sound = fresh .sound; loaded = rw (fresh .read) (fresh .state) }
+
+-- ---- a record that is saved
+
+pub saved-sound : (state : Record) (out : List ℕ) → accepted 0 ≡ saveTold state out → isSound state ≡ true
+saved-sound state out told =
+    let none : saveTold state out .number ≡ 0 = ap (λ (t : Told). t .number) (sym told) in
+    let right = first-yes 1 0 (eqb (length out) recordBytes) _ (omega arith) none in
+    first-yes 13 0 (isSound state) (accepted 0) (omega arith) (right .1) .0

@@ -1,3 +1,8 @@
--- What reading promises.
+-- What reading and writing promise.
 pub mod Front
+pub mod Loading
 pub mod Cycles
+pub mod Records
+pub mod Budget
+pub mod Names
+pub mod Staging

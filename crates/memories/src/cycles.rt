@@ -11,7 +11,7 @@ const FRONT: usize = 229_377;
 
 // Reads the irq2 file that an argument names, of up to 16,384 cycles, and returns how many it has. They stand at the front then, and rise.
 pub fn load_irq2(i: usize, cycles: &mut [u64]) -> Count
-    ensures { λ r. ⌜ RiseIn r (now (cycles .exit)) ⌝ }
+    ensures { λ r. ⌜ RiseIn r (now (cycles .entry)) (now (cycles .exit)) ⌝ }
 {
     let mut text = [0u8; FRONT];
     if let Count::Of(n) = read_front(i, &mut text) {
@@ -22,7 +22,7 @@ pub fn load_irq2(i: usize, cycles: &mut [u64]) -> Count
 
 // Reads the cycles of a text; none where it is refused, as is said.
 fn count_cycles(i: usize, text: &[u8], cycles: &mut [u64]) -> Count
-    ensures { λ r. ⌜ RiseIn r (now (cycles .exit)) ⌝ }
+    ensures { λ r. ⌜ RiseIn r (now (cycles .entry)) (now (cycles .exit)) ⌝ }
 {
     let told = cycles_told(read_irq2(text, cycles));
     if told.number != 0 {

@@ -4,6 +4,8 @@ use console::Got;
 use console::read_file;
 use console::say_of;
 use console::say_refusal;
+ghost use mathlib.Core.Path.{_≡_};
+ghost use lib.Dec.{eqb};
 ghost use Rattle.memories.specs.Front.{CountIn};
 
 // Reads the file that an argument names into the front of a buffer, as much as the buffer holds, and returns how many bytes; none where it can't be
@@ -21,7 +23,9 @@ pub fn read_front(i: usize, buffer: &mut [u8]) -> Count
 }
 
 // Whether a file is accepted: the number of its refusal is 0. Says why where not.
-pub fn is_accepted(i: usize, number: u32, place: usize) -> bool {
+pub fn is_accepted(i: usize, number: u32, place: usize) -> bool
+    ensures { λ r. ⌜ r ≡ eqb number 0 ⌝ }
+{
     if number == 0 {
         return true;
     }

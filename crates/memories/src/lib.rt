@@ -27,7 +27,6 @@ pub use named::end_at;
 pub use named::is_missing_at;
 pub use named::keep_at;
 pub use named::more_at;
-pub use names::are_same;
 pub use names::has_same;
 pub use names::is_device_at;
 pub use records::fresh;

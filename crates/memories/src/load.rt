@@ -8,6 +8,8 @@ use files::read_disk;
 use files::read_frame;
 use files::read_image;
 use pieces::file_told;
+ghost use Rattle.files.specs.Sizes.{isImageLength, isDataLength, isFrameLength, isPartLength, imageDigits, wordDigits, frameDigits};
+ghost use Rattle.memories.specs.Loading.{Loaded};
 
 // 4,096 lines of 12 digits, 4,096 and 16,384 lines of 8 digits, 65,536 lines of 2 digits; and one byte more.
 const IMAGE_FRONT: usize = 53_249;
@@ -19,7 +21,9 @@ const DISK_FRONT: usize = 147_457;
 const FRAME_FRONT: usize = 196_609;
 
 // Reads the instruction file that an argument names, and answers whether it is accepted.
-pub fn load_image(i: usize, image: &mut [u64]) -> bool {
+pub fn load_image(i: usize, image: &mut [u64]) -> bool
+    ensures { λ r. ⌜ Loaded imageDigits isImageLength r (now (image .entry)) (now (image .exit)) ⌝ }
+{
     let mut text = [0u8; IMAGE_FRONT];
     if let Count::Of(n) = read_front(i, &mut text) {
         let told = file_told(read_image(&text[..n], image));
@@ -29,7 +33,9 @@ pub fn load_image(i: usize, image: &mut [u64]) -> bool {
 }
 
 // Reads the file of data in the same way.
-pub fn load_data(i: usize, memory: &mut [u32]) -> bool {
+pub fn load_data(i: usize, memory: &mut [u32]) -> bool
+    ensures { λ r. ⌜ Loaded wordDigits isDataLength r (now (memory .entry)) (now (memory .exit)) ⌝ }
+{
     let mut text = [0u8; DATA_FRONT];
     if let Count::Of(n) = read_front(i, &mut text) {
         let told = file_told(read_data(&text[..n], memory));
@@ -39,7 +45,9 @@ pub fn load_data(i: usize, memory: &mut [u32]) -> bool {
 }
 
 // Reads the file of the whole disk in the same way.
-pub fn load_disk(i: usize, disk: &mut [u32]) -> bool {
+pub fn load_disk(i: usize, disk: &mut [u32]) -> bool
+    ensures { λ r. ⌜ Loaded wordDigits isPartLength r (now (disk .entry)) (now (disk .exit)) ⌝ }
+{
     let mut text = [0u8; DISK_FRONT];
     if let Count::Of(n) = read_front(i, &mut text) {
         let told = file_told(read_disk(&text[..n], disk));
@@ -49,7 +57,9 @@ pub fn load_disk(i: usize, disk: &mut [u32]) -> bool {
 }
 
 // Reads the file of the frame in the same way.
-pub fn load_frame(i: usize, frame: &mut [u8]) -> bool {
+pub fn load_frame(i: usize, frame: &mut [u8]) -> bool
+    ensures { λ r. ⌜ Loaded frameDigits isFrameLength r (now (frame .entry)) (now (frame .exit)) ⌝ }
+{
     let mut text = [0u8; FRAME_FRONT];
     if let Count::Of(n) = read_front(i, &mut text) {
         let told = file_told(read_frame(&text[..n], frame));

@@ -7,30 +7,39 @@ use console::drop_file;
 use console::end_file;
 use console::is_missing;
 use console::keep_file;
+ghost use Rattle.console.specs.Writings.{Begun, Ended, Kept};
 
 // Begins the file that an argument names.
-pub fn begin_at(i: usize) -> Writing {
+pub fn begin_at(i: usize) -> Writing
+    ensures { λ r. ⌜ Begun r ⌝ }
+{
     let mut name = io::buffer();
     let n = os::arg(i, &mut name);
     begin_file(&name[..n])
 }
 
 // Begins it with what the old one has.
-pub fn more_at(i: usize) -> Writing {
+pub fn more_at(i: usize) -> Writing
+    ensures { λ r. ⌜ Begun r ⌝ }
+{
     let mut name = io::buffer();
     let n = os::arg(i, &mut name);
     begin_more(&name[..n])
 }
 
 // Closes it.
-pub fn end_at(i: usize, w: Writing) -> Writing {
+pub fn end_at(i: usize, w: Writing) -> Writing
+    ensures { λ r. ⌜ Ended w r ⌝ }
+{
     let mut name = io::buffer();
     let n = os::arg(i, &mut name);
     end_file(&name[..n], w)
 }
 
 // Puts it into the place of the old one, and answers whether it is there then.
-pub fn keep_at(i: usize, w: Writing) -> bool {
+pub fn keep_at(i: usize, w: Writing) -> bool
+    ensures { λ r. ⌜ Kept w r ⌝ }
+{
     let mut name = io::buffer();
     let n = os::arg(i, &mut name);
     keep_file(&name[..n], w)

@@ -1,11 +1,17 @@
 // Names that arguments give.
 use crate::front::say_at;
+use text::same::are_same;
+use text::same::begins_with;
+ghost use mathlib.Core.Path.{_≡_};
+ghost use mathlib.Core.Bool.{true};
 ghost use Prim.Native.Nat.{_+_, _^_, _<_};
+ghost use Rattle.memories.specs.Names.{isDevice, isNewOf, clash};
 
 // Whether one of the files that are written, which are the arguments from `first` on but for so many that are read, has the name of one before
 // it, or one is the other's `.new`; says so of the first that does. Devices may be named again.
 pub fn has_same(first: usize, read: usize, count: usize) -> bool
     requires { ⌜ first + count < 2 ^ 64 ⌝ }
+    ensures { λ r. ⌜ (r ≡ true → read < count) ⌝ }
 {
     let mut i = read;
     while i < count {
@@ -21,6 +27,7 @@ pub fn has_same(first: usize, read: usize, count: usize) -> bool
 // Whether the argument that stands i places after the first gives the name of one before it, and no device's.
 fn is_again(first: usize, i: usize) -> bool
     requires { ⌜ first + i < 2 ^ 64 ⌝ }
+    ensures { λ r. ⌜ (r ≡ true → 0 < i) ⌝ }
 {
     let mut k = 0;
     while k < i {
@@ -32,34 +39,40 @@ fn is_again(first: usize, i: usize) -> bool
     false
 }
 
-// Whether two arguments give the same name, and no device's, or one is the other's `.new`.
+// Whether the files that two arguments name would be written to one place.
 fn gives_same(i: usize, j: usize) -> bool {
     let mut first = io::buffer();
     let n = os::arg(i, &mut first);
     let mut second = io::buffer();
     let m = os::arg(j, &mut second);
-    if is_device(&first[..n]) {
+    do_clash(&first[..n], &second[..m])
+}
+
+// Whether two names are the same, and no device's, or one is the other's `.new`.
+fn do_clash(a: &[u8], b: &[u8]) -> bool
+    ensures { λ r. ⌜ r ≡ clash (now (a .entry)) (now (b .entry)) ⌝ }
+{
+    if is_device(a) {
         return false;
     }
-    if is_new_of(&first[..n], &second[..m]) {
+    if is_new_of(a, b) {
         return true;
     }
-    if is_new_of(&second[..m], &first[..n]) {
+    if is_new_of(b, a) {
         return true;
     }
-    are_same(&first[..n], &second[..m])
+    are_same(a, b)
 }
 
 // Whether a name is another one and `.new`.
-fn is_new_of(new: &[u8], name: &[u8]) -> bool {
-    if new.len() <= name.len() {
-        return false;
-    }
+fn is_new_of(new: &[u8], name: &[u8]) -> bool
+    ensures { λ r. ⌜ r ≡ isNewOf (now (new .entry)) (now (name .entry)) ⌝ }
+{
     let n = name.len();
-    if !are_same(&new[..n], name) {
-        return false;
+    if begins_with(new, name) {
+        return are_same(&new[n..], b".new");
     }
-    are_same(&new[n..], b".new")
+    false
 }
 
 // Whether an argument names a device.
@@ -70,24 +83,8 @@ pub fn is_device_at(i: usize) -> bool {
 }
 
 // Whether a name begins with `/dev/`.
-fn is_device(name: &[u8]) -> bool {
-    if name.len() < 5 {
-        return false;
-    }
-    are_same(&name[..5], b"/dev/")
-}
-
-// Whether two parts hold the same bytes.
-pub fn are_same(a: &[u8], b: &[u8]) -> bool {
-    if a.len() != b.len() {
-        return false;
-    }
-    let mut i = 0;
-    while i < a.len() {
-        if a[i] != b[i] {
-            return false;
-        }
-        i += 1;
-    }
-    true
+fn is_device(name: &[u8]) -> bool
+    ensures { λ r. ⌜ r ≡ isDevice (now (name .entry)) ⌝ }
+{
+    begins_with(name, b"/dev/")
 }

@@ -13,8 +13,10 @@ use saved::fresh_record;
 use saved::load;
 use saved::save;
 ghost use mathlib.Core.Path.{_≡_};
-ghost use Rattle.machine.specs.Soundness.{Sound};
 ghost use Rattle.saved.specs.Answers.{loadedTold};
+ghost use Rattle.saved.specs.Sound.{isSound};
+ghost use Rattle.memories.specs.Records.{SoundRead, FreshRead};
+ghost use Rattle.memories.specs.Staging.{Staged};
 
 // The bytes of a saved record.
 const BYTES: usize = 91;
@@ -24,7 +26,7 @@ const FRONT: usize = 92;
 
 // Reads the saved record that an argument names; the fresh record where it is refused, as is said.
 pub fn load_record(i: usize) -> RecordRead
-    ensures { λ r. ⌜ Sound (r .state .core) (r .state .regs) (r .state .io) ⌝ }
+    ensures { λ r. ⌜ SoundRead r ⌝ }
 {
     let mut bytes = [0u8; FRONT];
     if let Count::Of(n) = read_front(i, &mut bytes) {
@@ -35,7 +37,7 @@ pub fn load_record(i: usize) -> RecordRead
 
 // The record that bytes hold.
 fn record_of(i: usize, bytes: &[u8]) -> RecordRead
-    ensures { λ r. ⌜ Sound (r .state .core) (r .state .regs) (r .state .io) ⌝ }
+    ensures { λ r. ⌜ SoundRead r ⌝ }
 {
     let loaded = load(bytes);
     let answer = loaded.answer;
@@ -65,7 +67,7 @@ fn number_of(answer: LoadAnswer) -> u32
 
 // The fresh record, as one that was read or as one that was not.
 pub fn fresh(is_read: bool) -> RecordRead
-    ensures { λ r. ⌜ Sound (r .state .core) (r .state .regs) (r .state .io) ⌝ }
+    ensures { λ r. ⌜ FreshRead «is_read» r ⌝ }
 {
     let state = fresh_record();
     RecordRead {
@@ -75,7 +77,9 @@ pub fn fresh(is_read: bool) -> RecordRead
 }
 
 // Stages a record under the name that an argument gives; says why where it is refused.
-pub fn stage_record(i: usize, state: Record) -> Writing {
+pub fn stage_record(i: usize, state: Record) -> Writing
+    ensures { λ r. ⌜ Staged (isSound state) r ⌝ }
+{
     let mut bytes = [0u8; BYTES];
     match save(state, &mut bytes) {
         Saved::Done => stage_bytes(i, &bytes),

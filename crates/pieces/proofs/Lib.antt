@@ -3,3 +3,4 @@ pub mod RunLaws
 pub mod PieceLaws
 pub mod SplitLaws
 pub mod CycleLaws
+pub mod FileLaws

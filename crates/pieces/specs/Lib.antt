@@ -2,3 +2,4 @@
 pub mod Pieces
 pub mod Answers
 pub mod Cycles
+pub mod Files

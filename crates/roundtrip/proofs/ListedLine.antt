@@ -13,7 +13,8 @@ use Rattle.isa.specs.Operations.{operationName}
 use Rattle.isa.proofs.WordLaws.{decode-fits, encode-decode}
 use Rattle.source.specs.Bytes.{isAllowed, all, areRightBytes}
 use Rattle.source.specs.Tokens.{tokens, texts}
-use Rattle.source.specs.Numbers.{same, number, isNumber}
+use Rattle.source.specs.Numbers.{number, isNumber}
+use Rattle.text.specs.Same.{same}
 use Rattle.source.specs.Names.{isDefinition}
 use Rattle.source.specs.Shapes.{fits, matches, firstShape}
 use Rattle.lines.specs.declared.Form.the-variants.{Code}

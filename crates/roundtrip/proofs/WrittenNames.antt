@@ -11,7 +11,7 @@ use Rattle.text.proofs.Truth.{below}
 use Rattle.isa.specs.Operations.{operationNames, operationName}
 use Rattle.isa.specs.Registers.{registerNames, registerName}
 use Rattle.source.specs.Bytes.{all}
-use Rattle.source.specs.Numbers.{same}
+use Rattle.text.specs.Same.{same}
 use Rattle.source.specs.Names.{isName, isRegister}
 use Rattle.source.specs.Lookup.{isAmong, placeOf}
 use Rattle.roundtrip.proofs.WrittenTokens.{Written, isWritten, is-written}

@@ -14,7 +14,8 @@ use Rattle.text.proofs.Truth.{and-left, and-right, allBelow, between}
 use Rattle.text.proofs.DecimalLaws.{count-pos, count-le, length-decimal, all-decimal, value-decimal}
 use Rattle.source.specs.declared.Number.the-variants.{Decimal, Minus}
 use Rattle.source.specs.Bytes.{all}
-use Rattle.source.specs.Numbers.{same, number, isNumber}
+use Rattle.source.specs.Numbers.{number, isNumber}
+use Rattle.text.specs.Same.{same}
 use Rattle.lines.specs.Ranges.{isImmediate, modulo}
 use Rattle.lister.specs.Listing.{signedDecimal}
 use Rattle.roundtrip.proofs.WrittenTokens.{isPlain, and-no, Written}

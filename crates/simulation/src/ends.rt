@@ -7,6 +7,8 @@ use memories::stage_disk;
 use memories::stage_frame;
 use outputs::put_cycles;
 use outputs::put_registers;
+ghost use mathlib.Core.Path.{_≡_};
+ghost use mathlib.Core.Bool.{_&&_};
 ghost use Prim.Native.Nat.{_+_, _^_, _<_};
 
 // Writes them, the 5th, 6th, 9th, 12th, 13th and 14th of the fourteen, and answers whether all are written.
@@ -35,7 +37,9 @@ pub fn write_ends(
 }
 
 // Whether both are so.
-pub fn both(a: bool, b: bool) -> bool {
+pub fn both(a: bool, b: bool) -> bool
+    ensures { λ r. ⌜ r ≡ (a && b) ⌝ }
+{
     if a {
         return b;
     }

@@ -1,15 +1,20 @@
 // The files that the lines of a log go to: the 7th, 8th, 10th and 11th of the fourteen.
 use crate::LogFiles;
 use crate::ends::both;
+use console::is_no_file;
 use memories::abandon_at;
 use memories::begin_at;
 use memories::end_at;
 use memories::keep_at;
+ghost use mathlib.Core.Path.{_≡_};
+ghost use mathlib.Core.Bool.{true};
 ghost use Prim.Native.Nat.{_+_, _^_, _<_};
+ghost use Rattle.simulation.specs.Logs.{areOpen, LogsBegun};
 
 // Begins them.
 pub fn begin_logs(first: usize) -> LogFiles
     requires { ⌜ first + 14 < 2 ^ 64 ⌝ }
+    ensures { λ r. ⌜ LogsBegun r ⌝ }
 {
     let trace = begin_at(first + 6);
     let hwregtrace = begin_at(first + 7);
@@ -24,17 +29,19 @@ pub fn begin_logs(first: usize) -> LogFiles
 }
 
 // Whether all are open.
-pub fn are_open(logs: LogFiles) -> bool {
-    if logs.trace.fd < 0 {
+pub fn are_open(logs: LogFiles) -> bool
+    ensures { λ r. ⌜ r ≡ areOpen logs ⌝ }
+{
+    if is_no_file(logs.trace) {
         return false;
     }
-    if logs.hwregtrace.fd < 0 {
+    if is_no_file(logs.hwregtrace) {
         return false;
     }
-    if logs.leds.fd < 0 {
+    if is_no_file(logs.leds) {
         return false;
     }
-    0 <= logs.display7seg.fd
+    !is_no_file(logs.display7seg)
 }
 
 // Closes and removes them; the old ones stay.
@@ -50,6 +57,7 @@ pub fn abandon_logs(first: usize, logs: LogFiles)
 // Closes them and puts them into their places; answers whether all are there.
 pub fn keep_logs(first: usize, logs: LogFiles) -> bool
     requires { ⌜ first + 14 < 2 ^ 64 ⌝ }
+    ensures { λ r. ⌜ (r ≡ true → areOpen logs ≡ true) ⌝ }
 {
     let mut is_whole = keep_at(first + 6, end_at(first + 6, logs.trace));
     is_whole = both(

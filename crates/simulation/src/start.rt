@@ -7,10 +7,14 @@ use memories::is_missing_at;
 use memories::load_frame;
 use memories::load_record;
 use memories::say_at;
-ghost use Rattle.machine.specs.Soundness.{Sound};
+ghost use mathlib.Core.Path.{_≡_};
+ghost use mathlib.Core.Bool.{false};
+ghost use Rattle.simulation.specs.Start.{StartRecord, StartFrame};
 
 // Whether a run that starts fresh would go on with a log that is there, as with a record's name that is mistaken; says so.
-pub fn is_astray(log: usize, is_fresh: bool) -> bool {
+pub fn is_astray(log: usize, is_fresh: bool) -> bool
+    ensures { λ r. ⌜ («is_fresh» ≡ false → r ≡ false) ⌝ }
+{
     if !is_fresh {
         return false;
     }
@@ -29,7 +33,7 @@ pub fn is_astray(log: usize, is_fresh: bool) -> bool {
 
 // The record that an argument names; the fresh one where there is none, as is said.
 pub fn start_record(i: usize, is_fresh: bool) -> RecordRead
-    ensures { λ r. ⌜ Sound (r .state .core) (r .state .regs) (r .state .io) ⌝ }
+    ensures { λ r. ⌜ StartRecord «is_fresh» r ⌝ }
 {
     if is_fresh {
         say(b"no saved record: the run starts with the fresh one\n");
@@ -39,7 +43,9 @@ pub fn start_record(i: usize, is_fresh: bool) -> RecordRead
 }
 
 // Reads the frame that an argument names into one that is black, and answers whether it is accepted. A fresh run may have none.
-pub fn start_frame(i: usize, is_fresh: bool, frame: &mut [u8]) -> bool {
+pub fn start_frame(i: usize, is_fresh: bool, frame: &mut [u8]) -> bool
+    ensures { λ r. ⌜ StartFrame «is_fresh» r (now (frame .entry)) (now (frame .exit)) ⌝ }
+{
     if is_fresh {
         if is_missing_at(i) {
             return true;

@@ -1,5 +1,6 @@
 // The memories, the record and the log of a resumed run, written back.
 use console::Writing;
+use console::is_no_file;
 use console::say;
 use machine::Record;
 use memories::drop_at;
@@ -8,7 +9,10 @@ use memories::stage_data;
 use memories::stage_disk;
 use memories::stage_frame;
 use memories::stage_record;
+ghost use mathlib.Core.Path.{_≡_};
+ghost use mathlib.Core.Bool.{true};
 ghost use Prim.Native.Nat.{_+_, _^_, _<_};
+ghost use Rattle.simulation.specs.Back.{areStaged, CanBeBack};
 
 // Writes all of them, or none, and answers whether they are there then.
 pub fn write_back(
@@ -20,6 +24,7 @@ pub fn write_back(
     frame: &[u8],
 ) -> bool
     requires { ⌜ first + 8 < 2 ^ 64 ⌝ }
+    ensures { λ r. ⌜ (r ≡ true → CanBeBack log state (now (memory .entry)) (now (disk .entry)) (now (frame .entry))) ⌝ }
 {
     let d = stage_data(first + 1, memory);
     let k = stage_disk(first + 2, disk);
@@ -38,20 +43,22 @@ pub fn write_back(
 }
 
 // Whether five files are whole.
-fn are_staged(a: Writing, b: Writing, c: Writing, d: Writing, e: Writing) -> bool {
-    if a.fd < 0 {
+fn are_staged(a: Writing, b: Writing, c: Writing, d: Writing, e: Writing) -> bool
+    ensures { λ r. ⌜ r ≡ areStaged a b c d e ⌝ }
+{
+    if is_no_file(a) {
         return false;
     }
-    if b.fd < 0 {
+    if is_no_file(b) {
         return false;
     }
-    if c.fd < 0 {
+    if is_no_file(c) {
         return false;
     }
-    if d.fd < 0 {
+    if is_no_file(d) {
         return false;
     }
-    0 <= e.fd
+    !is_no_file(e)
 }
 
 // Puts the log, the memories and the record into their places, up to the first that can't be; those after it are removed.

@@ -2,7 +2,6 @@
 pub mod AllLaws
 pub mod LetterLaws
 pub mod NameLaws
-pub mod SameLaws
 pub mod NumberLaws
 pub mod TokenLaws
 pub mod SplitLaws

@@ -14,7 +14,8 @@ use Rattle.text.specs.declared.Numeral.{Numeral}
 use Rattle.text.specs.declared.Numeral.the-variants.{NoNumeral}
 use Rattle.source.specs.declared.Number.{Number}
 use Rattle.source.specs.declared.Number.the-variants.{Decimal, Minus, Hexadecimal}
-use Rattle.source.specs.Numbers.{same, digitsUpTo, written, number}
+use Rattle.source.specs.Numbers.{digitsUpTo, written, number}
+use Rattle.text.specs.Same.{same}
 
 -- ---- so many digits
 

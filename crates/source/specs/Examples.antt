@@ -10,7 +10,8 @@ use Rattle.text.specs.Numerals.{allDigits, value}
 use Rattle.source.specs.declared.Number.the-variants.{Decimal, Minus, Hexadecimal, NoNumber}
 use Rattle.source.specs.Bytes.{isAllowed, all, areRightBytes}
 use Rattle.source.specs.Tokens.{token, tokensFrom, tokens, texts}
-use Rattle.source.specs.Numbers.{same, number}
+use Rattle.source.specs.Numbers.{number}
+use Rattle.text.specs.Same.{same}
 use Rattle.source.specs.Names.{isName, isRegister, isDefinition}
 use Rattle.source.specs.Lookup.{isAmong, placeOf}
 use Rattle.source.specs.Shapes.{fits, matches, firstShape}

@@ -2,7 +2,7 @@
 use Prim.Native.Nat.{ℕ, suc}
 use mathlib.Core.Bool.{Bool, false, cond, _||_}
 use mathlib.Core.List.{List, [], _∷_}
-use Rattle.source.specs.Numbers.{same}
+use Rattle.text.specs.Same.{same}
 
 -- A name is one of these.
 unfoldable pub isAmong : List (List ℕ) → List ℕ → Bool

@@ -1,22 +1,16 @@
 -- "Numbers: decimal of 1 to 10 digits, `-` allowed, or 0x and 1 to 8 digits of either case. A longer number or label is wrong form."
 use Prim.Native.Nat.{ℕ}
 use mathlib.Core.Bool.{Bool, true, false, cond, _&&_}
-use mathlib.Core.List.{List, [], _∷_}
-use lib.Dec.{eqb, leb}
+use mathlib.Core.List.{List}
+use lib.Dec.{leb}
 use lib.ListN.{length, take, drop}
 use Rattle.text.specs.Bytes.{bytes}
+use Rattle.text.specs.Same.{same}
 use Rattle.text.specs.Numerals.{numeral}
 use Rattle.text.specs.declared.Numeral.{Numeral}
 use Rattle.text.specs.declared.Numeral.the-variants.{Value, NoNumeral}
 use Rattle.source.specs.declared.Number.{Number}
 use Rattle.source.specs.declared.Number.the-variants.{Decimal, Minus, Hexadecimal, NoNumber}
-
--- Two byte lists are the same.
-unfoldable pub same : List ℕ → List ℕ → Bool
-same [] [] = true
-same [] (c ∷ t) = false
-same (b ∷ s) [] = false
-same (b ∷ s) (c ∷ t) = eqb b c && same s t
 
 -- Digits of a base, 1 to `most` of them.
 abbrev pub digitsUpTo : (base most : ℕ) → List ℕ → Numeral

@@ -6,7 +6,8 @@ use mathlib.Core.List.{List, [], _∷_}
 use lib.Dec.{eqb}
 use Rattle.text.specs.Bytes.{bytes}
 use Rattle.source.specs.Tokens.{Token, tokens, texts}
-use Rattle.source.specs.Numbers.{same, number, isNumber}
+use Rattle.source.specs.Numbers.{number, isNumber}
+use Rattle.text.specs.Same.{same}
 use Rattle.source.specs.Names.{isName, isRegister, isDefinition}
 
 -- What a sign asks of a token: `:` a label's definition, `o` an op, `$` a register, `,` a comma, `0` a number, `i` an immediate (a number or a label),

@@ -1,13 +1,13 @@
-// Tokens that are numbers, and bytes that are the same.
+// Tokens that are numbers.
 use crate::Number;
 use text::Numeral;
 use text::digits::read_digits;
+use text::same::begins_with;
 ghost use mathlib.Core.Path.{_≡_};
 ghost use Prim.Native.Nat.{_^_, _≤_, _<_};
-ghost use lib.ListN.{length, take};
 ghost use Rattle.text.specs.Numerals.{DigitValues};
 ghost use Rattle.source.specs.declared.Number.the-variants.{Decimal, Minus, Hexadecimal};
-ghost use Rattle.source.specs.Numbers.{same, digitsUpTo, written, number, isNumber};
+ghost use Rattle.source.specs.Numbers.{digitsUpTo, written, number, isNumber};
 
 // The most digits of a number.
 const DECIMAL_DIGITS: usize = 10;
@@ -82,31 +82,4 @@ fn as_decimal(n: Numeral) -> Number
         Numeral::Value(v) => Number::Decimal(v),
         Numeral::NoNumeral => Number::NoNumber,
     }
-}
-
-// Whether a token begins with these bytes.
-pub fn begins_with(t: &[u8], front: &[u8]) -> bool
-    ensures { λ r. ⌜ r ≡ same (take (length (now (front .entry))) (now (t .entry))) (now (front .entry)) ⌝ }
-{
-    if t.len() < front.len() {
-        return false;
-    }
-    let mut i = 0;
-    while i < front.len() {
-        if t[i] != front[i] {
-            return false;
-        }
-        i += 1;
-    }
-    true
-}
-
-// Whether two tokens have the same bytes.
-pub fn are_same(t: &[u8], u: &[u8]) -> bool
-    ensures { λ r. ⌜ r ≡ same (now (t .entry)) (now (u .entry)) ⌝ }
-{
-    if t.len() != u.len() {
-        return false;
-    }
-    begins_with(t, u)
 }

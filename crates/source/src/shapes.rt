@@ -2,9 +2,9 @@
 use crate::names::is_definition;
 use crate::names::is_name;
 use crate::names::is_register;
-use crate::numbers::are_same;
 use crate::numbers::is_some;
 use crate::numbers::read_number;
+use text::same::are_same;
 ghost use mathlib.Core.Path.{_≡_};
 ghost use mathlib.Core.Bool.{_||_};
 ghost use mathlib.Core.List.{List};

@@ -9,7 +9,7 @@ use lib.Dec.{ltb}
 use lib.ListN.{getD}
 use borrow.Author.Tests.{ltb-true, lt-ltb, le-ltb}
 use Rattle.text.proofs.Truth.{and-left, and-right}
-use Rattle.source.specs.Numbers.{same}
+use Rattle.text.specs.Same.{same}
 use Rattle.source.specs.Lookup.{isAmong}
 use Rattle.symbols.specs.Keys.{keyOf, buckets, bucketOf}
 use Rattle.symbols.specs.Table.{headOf, nextOf, keyAt, part, startOf, endOf, nameAt, namesOf, OnChain}

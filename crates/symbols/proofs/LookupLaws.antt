@@ -9,7 +9,7 @@ use lib.Dec.{eqb, ltb, leb·suc-suc}
 use lib.ListN.{length, getD, take}
 use borrow.Author.Tests.{eq-eqb, eqb-true, lt-ltb, le-ltb, ltb-true, ltb-false}
 use Rattle.text.proofs.Truth.{and-left, and-right}
-use Rattle.source.specs.Numbers.{same}
+use Rattle.text.specs.Same.{same}
 use Rattle.source.specs.Lookup.{isAmong, placeOf}
 
 -- ---- names that are the same

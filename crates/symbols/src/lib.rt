@@ -1,13 +1,13 @@
 // Names looked up by a hash table with chains, in one slice of words that the caller lends. How the words stand in it is said in specs/Table.antt.
-use source::numbers::are_same;
 use source::tokens::next_token;
+use text::same::are_same;
 ghost use mathlib.Core.Path.{_≡_};
 ghost use mathlib.Core.Bool.{true, _&&_};
 ghost use mathlib.Core.List.{[], _∷_, _++_};
 ghost use Prim.Native.Nat.{_+_, _^_, _≤_, _<_};
 ghost use lib.Dec.{ltb};
 ghost use lib.ListN.{length};
-ghost use Rattle.source.specs.Numbers.{same};
+ghost use Rattle.text.specs.Same.{same};
 ghost use Rattle.source.specs.Lookup.{isAmong};
 ghost use Rattle.source.specs.Tokens.{tokens, texts};
 ghost use Rattle.symbols.specs.Keys.{keyOf};

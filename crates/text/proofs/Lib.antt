@@ -11,3 +11,4 @@ pub mod WriteLaws
 pub mod HexWordLaws
 pub mod DecimalLaws
 pub mod LineLaws
+pub mod SameLaws

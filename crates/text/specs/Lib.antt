@@ -4,5 +4,6 @@ pub mod Questions
 pub mod Numerals
 pub mod Lines
 pub mod Place
+pub mod Same
 pub mod Ranges
 pub mod Examples

@@ -4,6 +4,7 @@ pub mod digits;
 pub mod hex_words;
 pub mod lines;
 pub mod place;
+pub mod same;
 
 // What reading a numeral answers: its number, or that it is none.
 pub enum Numeral {

@@ -24,13 +24,13 @@ returns-2 : tie.Need-returns-2
 returns-2 c = search needs
 
 array-share-prefix-cycles : tie.Need-array-share-prefix-cycles
-array-share-prefix-cycles c = c .before .before .before .before .before .before .load-irq2 .ensures (c .before .before .before .before .if2 .left) .0
+array-share-prefix-cycles c = c .before .before .before .before .before .before .load-irq2 .ensures .0 (c .before .before .before .before .if2 .left) .0
 
 slice-aggregate-run-budget : tie.Need-slice-aggregate-run-budget
-slice-aggregate-run-budget c = sym (length-take-le _ _ (c .before .before .before .before .before .before .before .load-irq2 .ensures (c .before .before .before .before .before .if2 .left) .0))
+slice-aggregate-run-budget c = sym (length-take-le _ _ (c .before .before .before .before .before .before .before .load-irq2 .ensures .0 (c .before .before .before .before .before .if2 .left) .0))
 
 run-budget-requires : tie.Need-run-budget-requires
-run-budget-requires c κs = c .before .before .before .before .before .before .before .load-irq2 .ensures (c .before .before .before .before .before .if2 .left) .1
+run-budget-requires c κs = c .before .before .before .before .before .before .before .load-irq2 .ensures .0 (c .before .before .before .before .before .if2 .left) .1
 
 print-line-e-requires : tie.Need-print-line-e-requires
 print-line-e-requires c κs = search needs

@@ -2,17 +2,18 @@
 use Prim.Native.Nat.{_-_}
 use lib.ListN.{length}
 use borrow.Author.Needs.{needs}
+use Rattle.asm_check.proofs.AllLaws.{AreFirst, none-passed, one-passed, one-differs, all-passed}
 use Rattle.asm_check.proofs.memories.are_all.Statement.{statement}
 use Rattle.asm_check.proofs.memories.are_all.Tie as tie
 
 abbrev Inv-loop : tie.InvT-loop
-Inv-loop words word i₀ i = Unit {0}
+Inv-loop words word i₀ i = AreFirst words word i
 
 abbrev μ-loop : tie.MeasureT-loop
 μ-loop words word i₀ i = length words - i
 
 loop-holds : tie.Need-loop-holds Inv-loop μ-loop
-loop-holds c = search needs
+loop-holds c = none-passed _ _
 
 mul-if1 : tie.Need-mul-if1 Inv-loop μ-loop
 mul-if1 c = search needs
@@ -21,7 +22,7 @@ shared-slice-read-if1 : tie.Need-shared-slice-read-if1 Inv-loop μ-loop
 shared-slice-read-if1 c = search needs
 
 returns : tie.Need-returns Inv-loop μ-loop
-returns c = search needs
+returns c = one-differs _ _ _ (c .before .before .before .loop .inv) (c .before .before .loop-test .taken) (c .if1 .taken)
 
 add-i : tie.Need-add-i Inv-loop μ-loop
 add-i c = search needs
@@ -30,10 +31,10 @@ loop-less : tie.Need-loop-less Inv-loop μ-loop
 loop-less c = search needs
 
 loop-again : tie.Need-loop-again Inv-loop μ-loop
-loop-again c = search needs
+loop-again c = one-passed _ _ _ (c .before .before .before .loop .inv) (c .before .before .loop-test .taken) (c .if1 .left)
 
 returns-2 : tie.Need-returns-2 Inv-loop μ-loop
-returns-2 c = search needs
+returns-2 c = all-passed _ _ _ (c .before .loop .inv) (c .loop-test .left)
 
 pub are-all-spec : {M : Type 1} → statement M
 are-all-spec =

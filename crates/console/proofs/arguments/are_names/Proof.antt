@@ -1,6 +1,7 @@
 -- `console::arguments::are_names` meets its contract.
-use borrow.Author.Needs.{needs}
 use Prim.Native.Nat.{_≤_, _-_}
+use mathlib.Core.Bool.{true≢false}
+use borrow.Author.Needs.{needs}
 use Rattle.console.proofs.arguments.are_names.Statement.{statement}
 use Rattle.console.proofs.arguments.are_names.Tie as tie
 
@@ -38,7 +39,7 @@ loop-again : tie.Need-loop-again Inv-loop μ-loop
 loop-again c = search needs
 
 returns-2 : tie.Need-returns-2 Inv-loop μ-loop
-returns-2 c = search needs
+returns-2 c e = absurd (true≢false e)
 
 pub are-names-spec : {M : Type 1} → statement M
 are-names-spec =

@@ -1,5 +1,6 @@
 -- `course::load::load_irq2` meets its contract.
 use borrow.Author.Needs.{needs}
+use Rattle.pieces.proofs.FileLaws.{cycles-loaded}
 use Rattle.pieces.proofs.CycleLaws.{are-cycles}
 use Rattle.course.proofs.load.load_irq2.Statement.{statement}
 use Rattle.course.proofs.load.load_irq2.Tie as tie
@@ -26,7 +27,7 @@ cycles-told-requires : tie.Need-cycles-told-requires
 cycles-told-requires c κs = search needs
 
 returns : tie.Need-returns
-returns c = are-cycles _ _ _ _ (c .before .read-irq2 .ensures) _ (c .cycles-told .ensures)
+returns c = (are-cycles _ _ _ _ (c .before .read-irq2 .ensures) _ (c .cycles-told .ensures), cycles-loaded (c .before .read-irq2 .ensures) (c .cycles-told .ensures))
 
 pub load-irq2-spec : {M : Type 1} → statement M
 load-irq2-spec =

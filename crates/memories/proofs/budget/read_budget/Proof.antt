@@ -1,8 +1,10 @@
 -- `memories::budget::read_budget` meets its contract.
+use mathlib.Core.Path.{sym, _∙_}
 use native.Mathlib.Omega.{arith}
 use lib.Seq.{length-take-le}
-use Rattle.files.proofs.Irq2Laws.{few-fit}
 use borrow.Author.Needs.{needs}
+use Rattle.memories.proofs.BudgetLaws.{budget}
+use Rattle.files.proofs.Irq2Laws.{few-fit}
 use Rattle.memories.proofs.budget.read_budget.Statement.{statement}
 use Rattle.memories.proofs.budget.read_budget.Tie as tie
 
@@ -25,7 +27,7 @@ no-budget-requires : tie.Need-no-budget-requires
 no-budget-requires c κs = search needs
 
 returns : tie.Need-returns
-returns c = search needs
+returns c = rw (c .no-budget .ensures) tt
 
 array-share-prefix-word-2 : tie.Need-array-share-prefix-word-2
 array-share-prefix-word-2 c = search needs
@@ -37,7 +39,7 @@ no-budget-requires-2 : tie.Need-no-budget-requires-2
 no-budget-requires-2 c κs = search needs
 
 returns-2 : tie.Need-returns-2
-returns-2 c = search needs
+returns-2 c = rw (c .no-budget2 .ensures) tt
 
 digit-values-requires : tie.Need-digit-values-requires
 digit-values-requires c κs = search needs
@@ -67,10 +69,10 @@ no-budget-requires-3 : tie.Need-no-budget-requires-3
 no-budget-requires-3 c κs = search needs
 
 returns-3 : tie.Need-returns-3
-returns-3 c = search needs
+returns-3 c = let size = c .before .before .before .before .before .before .before .before .before .before .arg .ensures .1 in budget _ _ (omega (arith, size, c .before .before .before .before .before .before .before .before .if1 .left)) (omega (arith, size, c .before .before .before .before .before .before .before .if2 .left)) (sym (c .before .before .before .read-digits .ensures) ∙ c .before .cycles .given .1)
 
 returns-4 : tie.Need-returns-4
-returns-4 c = search needs
+returns-4 c = rw (c .no-budget3 .ensures) tt
 
 pub read-budget-spec : {M : Type 1} → statement M
 read-budget-spec =

@@ -1,6 +1,7 @@
 -- `memories::cycles::count_cycles` meets its contract.
-use Rattle.pieces.proofs.CycleLaws.{are-cycles}
 use borrow.Author.Needs.{needs}
+use Rattle.memories.proofs.LoadLaws.{cycles-accepted, cycles-refused}
+use Rattle.pieces.proofs.CycleLaws.{are-cycles}
 use Rattle.memories.proofs.cycles.count_cycles.Statement.{statement}
 use Rattle.memories.proofs.cycles.count_cycles.Tie as tie
 
@@ -17,13 +18,13 @@ same-length : tie.Need-same-length
 same-length c = search needs
 
 returns : tie.Need-returns
-returns c = search needs
+returns c = cycles-refused (c .before .before .before .before .before .before .read-irq2 .ensures) _ (c .before .before .before .cycles-told .ensures) (c .before .if1 .taken)
 
 same-length-2 : tie.Need-same-length-2
 same-length-2 c = search needs
 
 returns-2 : tie.Need-returns-2
-returns-2 c = are-cycles _ _ _ _ (c .before .before .before .before .before .read-irq2 .ensures) _ (c .before .before .cycles-told .ensures) (c .if1 .left)
+returns-2 c = cycles-accepted (c .before .before .before .before .before .read-irq2 .ensures) _ (c .before .before .cycles-told .ensures) (c .if1 .left)
 
 pub count-cycles-spec : {M : Type 1} → statement M
 count-cycles-spec =

@@ -1,4 +1,5 @@
 -- `memories::cycles::load_irq2` meets its contract.
+use mathlib.Core.Path.{refl}
 use borrow.Author.Needs.{needs}
 use Rattle.memories.proofs.cycles.load_irq2.Statement.{statement}
 use Rattle.memories.proofs.cycles.load_irq2.Tie as tie
@@ -25,13 +26,13 @@ same-length : tie.Need-same-length
 same-length c = search needs
 
 returns : tie.Need-returns
-returns c = search needs
+returns c = c .before .before .count-cycles .ensures
 
 enum-told : tie.Need-enum-told
 enum-told c = search needs
 
 returns-2 : tie.Need-returns-2
-returns-2 c = search needs
+returns-2 c = refl
 
 pub load-irq2-spec : {M : Type 1} → statement M
 load-irq2-spec =

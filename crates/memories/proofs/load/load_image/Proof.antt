@@ -1,5 +1,7 @@
 -- `memories::load::load_image` meets its contract.
+use mathlib.Core.Path.{refl}
 use borrow.Author.Needs.{needs}
+use Rattle.memories.proofs.LoadLaws.{loaded}
 use Rattle.memories.proofs.load.load_image.Statement.{statement}
 use Rattle.memories.proofs.load.load_image.Tie as tie
 
@@ -31,13 +33,13 @@ same-length : tie.Need-same-length
 same-length c = search needs
 
 returns : tie.Need-returns
-returns c = search needs
+returns c = loaded (c .before .before .before .before .read-image .ensures) _ (c .before .file-told .ensures) _ (c .is-accepted .ensures)
 
 enum-told : tie.Need-enum-told
 enum-told c = search needs
 
 returns-2 : tie.Need-returns-2
-returns-2 c = search needs
+returns-2 c = refl
 
 pub load-image-spec : {M : Type 1} → statement M
 load-image-spec =

@@ -1,11 +1,14 @@
 -- `memories::names::has_same` meets its contract.
-use borrow.Author.Needs.{needs}
+use Prim.Native.Nat.{_≤_, _-_}
 use Prim.Native.Nat.{_-_}
+use mathlib.Core.Bool.{false≢true}
+use native.Mathlib.Omega.{arith}
+use borrow.Author.Needs.{needs}
 use Rattle.memories.proofs.names.has_same.Statement.{statement}
 use Rattle.memories.proofs.names.has_same.Tie as tie
 
 abbrev Inv-loop : tie.InvT-loop
-Inv-loop first read count i₀ t5 i = Unit
+Inv-loop first read count i₀ t5 i = read ≤ i
 
 abbrev μ-loop : tie.MeasureT-loop
 μ-loop first read count i₀ t5 i = count - i
@@ -26,7 +29,7 @@ say-at-requires : tie.Need-say-at-requires Inv-loop μ-loop
 say-at-requires c κs = search needs
 
 returns : tie.Need-returns Inv-loop μ-loop
-returns c = search needs
+returns c e = omega arith
 
 add-i : tie.Need-add-i Inv-loop μ-loop
 add-i c = search needs
@@ -38,7 +41,7 @@ loop-again : tie.Need-loop-again Inv-loop μ-loop
 loop-again c = search needs
 
 returns-2 : tie.Need-returns-2 Inv-loop μ-loop
-returns-2 c = search needs
+returns-2 c e = absurd (false≢true e)
 
 pub has-same-spec : {M : Type 1} → statement M
 has-same-spec =

@@ -1,6 +1,7 @@
 -- `memories::names::is_again` meets its contract.
-use borrow.Author.Needs.{needs}
 use Prim.Native.Nat.{_≤_, _-_}
+use mathlib.Core.Bool.{false≢true}
+use borrow.Author.Needs.{needs}
 use Rattle.memories.proofs.names.is_again.Statement.{statement}
 use Rattle.memories.proofs.names.is_again.Tie as tie
 
@@ -35,7 +36,7 @@ loop-again : tie.Need-loop-again Inv-loop μ-loop
 loop-again c = search needs
 
 returns-2 : tie.Need-returns-2 Inv-loop μ-loop
-returns-2 c = search needs
+returns-2 c e = absurd (false≢true e)
 
 pub is-again-spec : {M : Type 1} → statement M
 is-again-spec =

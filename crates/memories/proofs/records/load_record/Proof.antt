@@ -1,5 +1,6 @@
 -- `memories::records::load_record` meets its contract.
 use borrow.Author.Needs.{needs}
+use Rattle.memories.proofs.RecordLaws.{fresh-read}
 use Rattle.memories.proofs.records.load_record.Statement.{statement}
 use Rattle.memories.proofs.records.load_record.Tie as tie
 
@@ -31,7 +32,7 @@ fresh-requires : tie.Need-fresh-requires
 fresh-requires c κs = search needs
 
 returns-2 : tie.Need-returns-2
-returns-2 c = search needs
+returns-2 c = fresh-read _ (c .fresh .ensures)
 
 pub load-record-spec : {M : Type 1} → statement M
 load-record-spec =

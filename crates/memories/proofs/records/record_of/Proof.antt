@@ -1,6 +1,8 @@
 -- `memories::records::record_of` meets its contract.
-use Rattle.memories.proofs.RecordLaws.{loaded-sound}
+use mathlib.Core.Path.{sym, _∙_}
 use borrow.Author.Needs.{needs}
+use Rattle.memories.proofs.RecordLaws.{record-read, fresh-read}
+use Rattle.memories.proofs.RecordLaws.{loaded-sound}
 use Rattle.memories.proofs.records.record_of.Statement.{statement}
 use Rattle.memories.proofs.records.record_of.Tie as tie
 
@@ -17,10 +19,10 @@ fresh-requires : tie.Need-fresh-requires
 fresh-requires c κs = search needs
 
 returns : tie.Need-returns
-returns c = search needs
+returns c = fresh-read _ (c .fresh .ensures)
 
 returns-2 : tie.Need-returns-2
-returns-2 c = loaded-sound _ (c .before .before .before .before .before .args .bytes .now) (c .before .before .before .load .ensures .1)
+returns-2 c = record-read _ (c .before .before .before .before .before .args .bytes .now) (c .before .before .before .load .result .answer) (c .before .before .before .load .ensures) (sym (c .before .before .number-of .ensures) ∙ c .before .if1 .left)
 
 pub record-of-spec : {M : Type 1} → statement M
 record-of-spec =

@@ -64,7 +64,7 @@ returns-5 : tie.Need-returns-5
 returns-5 c = search needs
 
 run-more-requires : tie.Need-run-more-requires
-run-more-requires c κs = (c .before .before .before .before .before .before .before .before .before .before .before .before .before .before .before .before .before .before .before .before .before .before .before .pre .0, c .before .before .before .before .before .before .before .before .before .before .before .before .before .before .before .before .before .before .before .before .before .before .before .pre .1, c .before .before .before .before .before .before .start-record .ensures)
+run-more-requires c κs = (c .before .before .before .before .before .before .before .before .before .before .before .before .before .before .before .before .before .before .before .before .before .before .before .pre .0, c .before .before .before .before .before .before .before .before .before .before .before .before .before .before .before .before .before .before .before .before .before .before .before .pre .1, c .before .before .before .before .before .before .start-record .ensures .sound)
 
 returns-6 : tie.Need-returns-6
 returns-6 c = search needs

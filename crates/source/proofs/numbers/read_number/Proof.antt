@@ -1,7 +1,7 @@
 -- `source::numbers::read_number` meets its contract.
 use borrow.Author.Needs.{needs}
 use Rattle.text.specs.Bytes.{bytes}
-use Rattle.source.proofs.SameLaws.{front-room}
+use Rattle.text.proofs.SameLaws.{front-room}
 use Rattle.source.proofs.NumberLaws.{is-minus, is-hexadecimal, is-decimal}
 use Rattle.source.proofs.numbers.read_number.Statement.{statement}
 use Rattle.source.proofs.numbers.read_number.Tie as tie

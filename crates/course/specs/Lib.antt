@@ -1,0 +1,2 @@
+-- What reading a folder's memories promises.
+pub mod Memories

@@ -1,0 +1,32 @@
+-- What reading a saved record promises.
+use mathlib.Core.Path.{_≡_}
+use mathlib.Core.Bool.{Bool, true, false}
+use mathlib.Core.List.{List}
+use Prim.Native.Nat.{ℕ}
+use Rattle.text.specs.Questions.{accepted}
+use Rattle.machine.specs.declared.Record.{Record}
+use Rattle.machine.specs.Soundness.{Sound}
+use Rattle.saved.specs.Calls.{freshRecord, loadTold, loadRecord}
+use Rattle.memories.specs.declared.RecordRead.{RecordRead}
+
+-- The record that some bytes hold which the definition of `saved` accepts, ..
+pub record RecordLoaded (state : Record) : Type 0 where
+  pub bytes : List ℕ
+  pub told : loadTold bytes ≡ accepted 0
+  pub is : state ≡ loadRecord bytes
+
+-- .. or, where none is read, the fresh record.
+abbrev pub LoadedIf : Bool → Record → Type 0
+LoadedIf true state = RecordLoaded state
+LoadedIf false state = state ≡ freshRecord
+
+-- What is read is sound.
+pub record SoundRead (r : RecordRead) : Type 0 where
+  pub sound : Sound (r .state .core) (r .state .regs) (r .state .io)
+  pub loaded : LoadedIf (r .«is_read») (r .state)
+
+-- The fresh record, as one that was read or as one that was not.
+pub record FreshRead (isRead : Bool) (r : RecordRead) : Type 0 where
+  pub sound : Sound (r .state .core) (r .state .regs) (r .state .io)
+  pub state : r .state ≡ freshRecord
+  pub read : r .«is_read» ≡ isRead

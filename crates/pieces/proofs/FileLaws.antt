@@ -1,0 +1,35 @@
+-- What is told of a file that was read, and the memory then: some text decides them. Assumes nothing.
+use Prim.Native.Nat.{ℕ}
+use mathlib.Core.Path.{_≡_, refl, _∙_}
+use mathlib.Core.Bool.{Bool}
+use mathlib.Core.List.{List}
+use native.Mathlib.Omega.{arith}
+use Rattle.text.specs.Questions.{Told, accepted}
+use Rattle.files.specs.declared.FileRead.{FileRead}
+use Rattle.files.specs.declared.FileRead.the-variants.{Filled, WrongLength, NoWord, BadDigits}
+use Rattle.files.specs.declared.CyclesRead.{CyclesRead}
+use Rattle.files.specs.declared.CyclesRead.the-variants as CyclesRead
+use Rattle.files.specs.Answers.{fileReadTold, cyclesReadTold}
+use Rattle.files.specs.Promises.{MemoryRead, Irq2Read}
+use Rattle.pieces.specs.Files.{FileLoaded, CyclesLoaded}
+
+module _ {k : ℕ} {isRight : ℕ → Bool} {text before after : List ℕ} {r : FileRead} (read : MemoryRead k isRight text before r after) where
+  pub file-loaded : {t : Told} → t ≡ fileReadTold r → FileLoaded k isRight t before after
+  file-loaded says = let told = says ∙ read .answer in record { text = text; told = told; words = rw told (read .words) }
+
+module _ {text before after : List ℕ} {r : CyclesRead} (read : Irq2Read text before r after) where
+  pub cycles-loaded : {t : Told} → t ≡ cyclesReadTold r → CyclesLoaded t before after
+  cycles-loaded says = let told = says ∙ read .answer in record { text = text; told = told; places = rw told (read .places) }
+
+-- A file whose number is 0 is accepted.
+pub filled : (r : FileRead) → fileReadTold r .number ≡ 0 → fileReadTold r ≡ accepted 0
+filled Filled e = refl
+filled WrongLength e = absurd (omega arith)
+filled (NoWord line) e = absurd (omega arith)
+filled (BadDigits line) e = absurd (omega arith)
+
+pub counted : (r : CyclesRead) → cyclesReadTold r .number ≡ 0 → cyclesReadTold r ≡ accepted (cyclesReadTold r .count)
+counted (CyclesRead.Cycles count) e = refl
+counted (CyclesRead.NoWord line) e = absurd (omega arith)
+counted (CyclesRead.BadCycle line) e = absurd (omega arith)
+counted (CyclesRead.NotRising line) e = absurd (omega arith)

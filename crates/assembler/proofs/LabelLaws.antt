@@ -14,7 +14,7 @@ use Rattle.text.specs.Lines.{lines, firstLine}
 use Rattle.text.proofs.Truth.{and-left, and-right}
 use Rattle.text.proofs.LineLaws.{lines-at}
 use Rattle.source.specs.Names.{isName, defined, isDefinition}
-use Rattle.symbols.specs.Table.{namesOf}
+use Rattle.symbols.specs.Table.{namesOf, entryAt}
 use Rattle.symbols.specs.Sound.{Sound, Empty}
 use Rattle.symbols.proofs.NameLaws.{length-names}
 use Rattle.symbols.proofs.EmptyLaws.{empty-sound}
@@ -25,7 +25,7 @@ use Rattle.lines.specs.Parts.{partCount, Formed, FirstFormed}
 use Rattle.lines.proofs.FirstLaws.{defines}
 use Rattle.assembler.specs.Text.{codeCount, labels, areRight, labelValues}
 use Rattle.assembler.specs.Questions.{mostLabels}
-use Rattle.assembler.specs.Passes.{LabelTable, LabelNoted}
+use Rattle.assembler.specs.Passes.{LabelTable, LabelNoted, LabelsFound}
 use Rattle.assembler.proofs.TextLaws.{labels-append, code-append, values-append, right-append, length-values}
 
 -- ---- the token that defines a label
@@ -135,11 +135,21 @@ none-noted source table values e room =
     }
 
 -- All are.
-pub all-noted : {source table values : List ℕ} {p n m : ℕ} → Noting source table values p n m → length source ≤ p → LabelTable source (lines source) table values m
+all-noted : {source table values : List ℕ} {p n m : ℕ} → Noting source table values p n m → length source ≤ p → LabelTable source (lines source) table values m
 unfolding lines
 all-noted {source} {table} {values} {p} {n} {m} d h =
     let whole : lines source ≡ d .done = d .split ∙ ap (λ (s : List ℕ). d .done ++ lines s) (drop-of-length-le source h) ∙ append-nil (d .done) in
     rw whole (d .noted)
+
+-- What the first pass leaves where the table has no room for one more label, ..
+pub some-found : {source table values : List ℕ} {p n m : ℕ} → Noting source table values p n m → p < length source → length table < entryAt (m + 1) → LabelsFound source table values (record { labels = m; all = false })
+some-found d inside full =
+    let few = d .few in
+    record { all = λ e. absurd (false≢true e); full = λ e. omega arith }
+
+-- .. and where it has come to the end of the text.
+pub all-found : {source table values : List ℕ} {p n m : ℕ} → Noting source table values p n m → length source ≤ p → LabelsFound source table values (record { labels = m; all = true })
+all-found d h = record { all = λ e. all-noted d h; full = λ e. absurd (false≢true (sym e)) }
 
 -- One line more.
 module _ {source table values : List ℕ} {p n m : ℕ} (d : Noting source table values p n m) (inside : p < length source) (e : ℕ) (is : e ≡ p + length (firstLine (drop p source))) (places : List ℕ) (f : Form)

@@ -1,10 +1,10 @@
 -- What the two passes over a text know (for the code).
-use Prim.Native.Nat.{ℕ, _+_, _-_, _*_, _≤_, _<_, _^_}
+use Prim.Native.Nat.{ℕ, _+_, _-_, _/_, _≤_, _<_, _^_}
 use mathlib.Core.Path.{_≡_}
 use mathlib.Core.Bool.{Bool, true, false, cond, _&&_}
 use mathlib.Core.List.{List, [], _∷_, _++_}
 use lib.Dec.{ltb}
-use lib.ListN.{length, getD, set, take, drop}
+use lib.ListN.{length, getD, set, take, drop, replicate}
 use Rattle.text.specs.Questions.{accepted, refused}
 use Rattle.text.specs.Lines.{lines}
 use Rattle.text.specs.Ranges.{Below}
@@ -15,11 +15,13 @@ use Rattle.lines.specs.declared.Form.{Form}
 use Rattle.lines.specs.Line.{hasLabel, hasCode, hasWord, part, labelOf, operand}
 use Rattle.lines.specs.Ranges.{isImmediate, modulo}
 use Rattle.lines.specs.Asked.{isKnown, areInRange, isWordInRange}
-use Rattle.symbols.specs.Table.{namesOf}
+use Rattle.symbols.specs.Table.{namesOf, entryAt}
 use Rattle.symbols.specs.Sound.{Sound}
 use Rattle.assembler.specs.declared.Statement.{Statement}
 use Rattle.assembler.specs.declared.Immediate.{Immediate}
 use Rattle.assembler.specs.declared.Refusal.{Refusal}
+use Rattle.assembler.specs.declared.FirstPass.{FirstPass}
+use Rattle.assembler.specs.declared.Passed.{Passed}
 use Rattle.assembler.specs.Text.{codeCount, labels, areRight, labelValues}
 use Rattle.assembler.specs.Questions.{when, isUsable, mostLabels, textTold}
 use Rattle.assembler.specs.Memories.{immediate, encoded, assembledImage, assembledData}
@@ -31,9 +33,14 @@ pub record LabelTable (source : List ℕ) (ls : List (List ℕ)) (table values :
   pub room : length values ≡ mostLabels
   pub valued : areRight ls ≡ true → (k : ℕ) → k < count → k < mostLabels → getD values k 0 ≡ getD (labelValues 0 ls) k 0
 
--- The words of a table that has room for every label: a line that defines one has three bytes with its LF, but for the last.
-abbrev pub tableWords : ℕ
-tableWords = 8192 + 4 * 87382
+-- How many labels a text of n bytes has at most: a line that defines one has three bytes with its LF, but for the last.
+abbrev pub labelsWithin : ℕ → ℕ
+labelsWithin n = n / 3 + 1
+
+-- What the first pass leaves in a table and in `values`: all labels of the text; where they are not all, the table has no room for as many as a text of that length can have.
+pub record LabelsFound (source table values : List ℕ) (r : FirstPass) : Type 0 where
+  pub all : r .all ≡ true → LabelTable source (lines source) table values (r .labels)
+  pub full : r .all ≡ false → length table < entryAt (labelsWithin (length source))
 
 -- A line from p to e of a text, and n instructions and m labels before it, is noted in a table of labels and their values.
 pub record LabelNoted (source : List ℕ) (p e : ℕ) (f : Form) (table values : List ℕ) (n m r : ℕ) (tableAfter valuesAfter : List ℕ) : Type 0 where
@@ -86,3 +93,8 @@ pub record Translated (source : List ℕ) (r : Refusal) (words data-words : List
   pub stores : r .number ≡ 0 → data-words ≡ assembledData source
   pub high-bits : Below (2 ^ 48) words
   pub sizes : (length words ≡ imageWords) × (length data-words ≡ dataWords)
+
+-- Both passes over words and data that are zero, the second only if the table has room for all labels.
+pub record PassedWith (source : List ℕ) (r : Passed) (words data-words : List ℕ) : Type 0 where
+  pub whole : r .whole ≡ true → Translated source (r .refusal) words data-words
+  pub cut : r .whole ≡ false → (words ≡ replicate imageWords 0) × (data-words ≡ replicate dataWords 0)

@@ -1,47 +1,57 @@
 // The first pass: the labels of a text, and their values.
+use crate::FirstPass;
 use crate::ask::MOST_LABELS;
 use lines::Form;
 use lines::forms::first_form;
 use lines::forms::has_code;
 use lines::forms::has_label;
 use symbols::add;
+use symbols::has_room;
 use text::lines::line_end;
 ghost use mathlib.Core.Path.{_≡_};
 ghost use mathlib.Core.Bool.{true, cond};
 ghost use Prim.Native.Nat.{_+_, _-_, _*_, _^_, _≤_, _<_};
 ghost use lib.Dec.{ltb};
 ghost use lib.ListN.{length, take, drop, set};
-ghost use Rattle.text.specs.Lines.{lines};
 ghost use Rattle.text.specs.Numerals.{DigitValues};
 ghost use Rattle.lines.specs.Line.{hasLabel, hasCode};
 ghost use Rattle.lines.specs.Parts.{mostPlaces, Formed};
 ghost use Rattle.symbols.specs.Table.{entryAt};
 ghost use Rattle.symbols.specs.Sound.{Empty, Sound};
 ghost use Rattle.assembler.specs.Questions.{mostSource, mostLabels};
-ghost use Rattle.assembler.specs.Passes.{LabelTable, LabelNoted, tableWords};
+ghost use Rattle.assembler.specs.Passes.{LabelsFound, LabelNoted};
 
-// Fills an empty table with the labels of a text, and `values` with the values of the first 1,024; how many labels there are.
+// Fills an empty table with the labels of a text, and `values` with the values of the first 1,024, as far as the table has room.
 pub fn find_labels(
     source: &[u8],
     table: &mut [u32],
     values: &mut [u32],
     places: &mut [usize],
     digits: &[u8; 256],
-) -> usize
-    requires { ⌜ (length (now source) ≤ mostSource) × Empty (now table) × (length (now table) ≡ tableWords) × (length (now values) ≡ mostLabels) × (length (now places) ≡ mostPlaces) × DigitValues (now digits) ⌝ }
-    ensures { λ r. ⌜ (LabelTable (now (source .entry)) (lines (now (source .entry))) (now (table .exit)) (now (values .exit)) r) × (length (now (places .exit)) ≡ mostPlaces) ⌝ }
+) -> FirstPass
+    requires { ⌜ (length (now source) ≤ mostSource) × Empty (now table) × (length (now values) ≡ mostLabels) × (length (now places) ≡ mostPlaces) × DigitValues (now digits) ⌝ }
+    ensures { λ r. ⌜ (LabelsFound (now (source .entry)) (now (table .exit)) (now (values .exit)) r) × (length (now (places .exit)) ≡ mostPlaces) ⌝ }
 {
     let mut p = 0;
     let mut n = 0;
     let mut m = 0;
     while p < source.len() {
+        if !has_room(table, m) {
+            return FirstPass {
+                labels: m,
+                all: false,
+            };
+        }
         let e = line_end(source, p);
         let f = first_form(&source[p..e], places, digits);
         m = note_label(source, p, e, f, places, table, values, n, m);
         n = after_code(f, n);
         p = e + 1;
     }
-    m
+    FirstPass {
+        labels: m,
+        all: true,
+    }
 }
 
 // Adds the label of the line from p to e, if it defines one, to the m labels before it; n instructions stand before it. How many labels there are then.

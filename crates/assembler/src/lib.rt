@@ -53,3 +53,15 @@ pub struct Refusal {
     pub number: u32,
     pub line: usize,
 }
+
+// What the first pass over a text finds: how many labels; whether they are all that the text has, or the table has no room for more.
+pub struct FirstPass {
+    pub labels: usize,
+    pub all: bool,
+}
+
+// What both passes find: whether the table had room for all labels of the text; if so, the refusal.
+pub struct Passed {
+    pub whole: bool,
+    pub refusal: Refusal,
+}

@@ -7,11 +7,11 @@ use native.Mathlib.Omega.{arith}
 use lib.Dec.{eqb, leb}
 use lib.ListN.{length, getD, take, drop, length-drop}
 use lib.Seq.{length-take-le, getD-take, getD-drop}
-use borrow.Author.Tests.{eqb-true}
+use borrow.Author.Tests.{lt-leb, eqb-true}
 use Rattle.text.specs.Bytes.{bytes}
 use Rattle.text.proofs.Truth.{and-left}
 use Rattle.source.specs.declared.Span.{Span}
-use Rattle.source.specs.Bytes.{areRightBytes, isLetter, isLetterOrDigit, all}
+use Rattle.source.specs.Bytes.{mostBytes, areRightBytes, isLetter, isLetterOrDigit, all}
 use Rattle.source.specs.Tokens.{tokens, tokensFrom, texts}
 use Rattle.source.specs.Spans.{TokenAt}
 use Rattle.text.specs.Same.{same}
@@ -131,6 +131,13 @@ some-code line some none dot right = go (formOf line) (shaped line) none right
     go Wrong s h r = absurd (false≢true r)
 
 -- ---- what the code finds
+
+-- Too many bytes.
+pub first-long : (line places : List ℕ) → mostBytes < length line → length places ≡ mostPlaces → FirstFormed line places Wrong
+unfolding formOf areRightBytes
+first-long line places h room =
+    let long = lt-leb (length line) mostBytes h in
+    record { label = rw long; formed = λ e. absurd (false≢true e); code = λ r. rw long; room = room }
 
 -- No token.
 pub first-none : (line places : List ℕ) (s : Span) → TokenAt line 0 s → s .end ≤ s .start → length places ≡ mostPlaces → FirstFormed line places Nothing

@@ -28,7 +28,7 @@ pub record Formed (line places : List ℕ) (f : Form) : Type 0 where
   pub placed : Placed line places (partCount f)
   pub room : length places ≡ mostPlaces
 
--- f is what the first token tells of a line's form: whether it defines a label, and then all of it; else, if the form is right, whether it has an instruction.
+-- f is what the length and the first token tell of a line's form: whether it defines a label, and then all of it; else, if the form is right, whether it has an instruction.
 pub record FirstFormed (line places : List ℕ) (f : Form) : Type 0 where
   pub label : hasLabel f ≡ hasLabel (formOf line)
   pub formed : hasLabel f ≡ true → Formed line places f

@@ -1,5 +1,6 @@
 // The forms of lines.
 use crate::Form;
+use source::bytes::MOST_BYTES;
 use source::bytes::are_right_bytes;
 use source::shapes::has_shape;
 use source::shapes::is_lone_definition;
@@ -30,11 +31,14 @@ pub fn line_form(line: &[u8], places: &mut [usize], values: &[u8; 256]) -> Form
     shape_form(line, places, n, values)
 }
 
-// What the first token tells of the form of a line: whether it defines a label, and then all of it; else, if the form is right, whether it has an instruction.
+// What the length and the first token tell of the form of a line: whether it defines a label, and then all of it; else, if the form is right, whether it has an instruction.
 pub fn first_form(line: &[u8], places: &mut [usize], values: &[u8; 256]) -> Form
     requires { ⌜ (length (now places) ≡ mostPlaces) × DigitValues (now values) ⌝ }
     ensures { λ r. ⌜ FirstFormed (now (line .entry)) (now (places .exit)) r ⌝ }
 {
+    if MOST_BYTES < line.len() {
+        return Form::Wrong;
+    }
     let s = next_token(line, 0);
     let start = s.start;
     let end = s.end;

@@ -4,7 +4,7 @@ ghost use mathlib.Core.Bool.{_&&_};
 ghost use Rattle.source.specs.Bytes.{isBlank, isLetter, isLetterOrDigit, isAllowed, areRightBytes, all};
 
 // The most bytes of a line.
-const MOST_BYTES: usize = 500;
+pub const MOST_BYTES: usize = 500;
 
 // Whether a byte is a blank: space, tab or CR.
 pub fn is_blank(b: u8) -> bool

@@ -5,7 +5,7 @@ ghost use mathlib.Core.Path.{_≡_};
 ghost use mathlib.Core.Bool.{true, _&&_};
 ghost use mathlib.Core.List.{[], _∷_, _++_};
 ghost use Prim.Native.Nat.{_+_, _^_, _≤_, _<_};
-ghost use lib.Dec.{ltb};
+ghost use lib.Dec.{leb, ltb};
 ghost use lib.ListN.{length};
 ghost use Rattle.text.specs.Same.{same};
 ghost use Rattle.source.specs.Lookup.{isAmong};
@@ -66,6 +66,14 @@ pub fn add(source: &[u8], table: &mut [u32], count: usize, start: usize, end: us
     let slot = key as usize / HEADS % RECENTS;
     table[bucket] = link;
     table[HEADS + slot] = link;
+}
+
+// Whether a table with so many entries has room for one more.
+pub fn has_room(table: &[u32], count: usize) -> bool
+    requires { ⌜ count < 2 ^ 32 ⌝ }
+    ensures { λ r. ⌜ r ≡ leb (entryAt (count + 1)) (length (now (table .entry))) ⌝ }
+{
+    ENTRIES + ENTRY * (count + 1) <= table.len()
 }
 
 // Adds each token of a text of names to an empty table; how many there are.

@@ -1,18 +1,18 @@
 -- Laws of the lines of a text. Assumes nothing.
 use Prim.Native.Nat.{ℕ, zero, suc, _+_, _-_, _≤_, _<_}
 use mathlib.Core.Path.{_≡_, refl, _∙_, ap}
-use mathlib.Core.Bool.{Bool, true, false, cond}
+use mathlib.Core.Bool.{Bool, true, false, cond, _||_}
 use mathlib.Core.List.{List, [], _∷_, _++_, map}
 use native.Mathlib.Nat.{add-suc, not-suc-le-zero, le-of-suc-le-suc}
 use native.Mathlib.Omega.{arith}
 use native.Mathlib.Numerals.{add-one}
-use lib.ListN.{length, getD, take, drop, length-drop, drop-of-length-le}
-use lib.Seq.{drop-cons, drop-drop, getD-drop}
+use lib.ListN.{length, getD, take, drop, length-drop, length-append, drop-of-length-le, take-append-drop}
+use lib.Seq.{drop-cons, drop-drop, getD-drop, length-take-le}
 use lib.Dec.{eqb, ltb, leb·suc-suc}
-use borrow.Author.Tests.{lt-ltb, ltb-true, eq-eqb, ne-eqb, eqb-true}
-use Rattle.text.specs.Lines.{LF, lines, inFront, firstLine, unlines, endsLine}
+use borrow.Author.Tests.{lt-ltb, ltb-true, ltb-false, eq-eqb, ne-eqb, eqb-true, eqb-false}
+use Rattle.text.specs.Lines.{LF, lines, inFront, firstLine, hasLF, unlines, endsLine}
 use Rattle.text.specs.Numerals.{digitValue, digits, allDigits}
-use Rattle.text.proofs.Truth.{and-left, and-right, leb-sub}
+use Rattle.text.proofs.Truth.{and-left, and-right, neither, leb-sub}
 use Rattle.text.proofs.DigitLaws.{all-written}
 
 -- No byte of the list is an LF.
@@ -152,9 +152,56 @@ module _ (s : List ℕ) (p : ℕ) where
       → p + 1 + length (firstLine (drop (p + 1) s)) ≡ p + length (firstLine (drop p s))
   end-more h other = rw (add-one p, drop-cons s p 0 h, first-more _ _ other) (omega arith)
 
-  pub end-here : p < length s → getD s p 0 ≡ LF → p ≡ p + length (firstLine (drop p s))
+  end-here : p < length s → getD s p 0 ≡ LF → p ≡ p + length (firstLine (drop p s))
   end-here h here = rw (drop-cons s p 0 h, first-lf _ _ here) (omega arith)
 
-  pub end-past : length s ≤ p → p ≡ p + length (firstLine (drop p s))
+  end-past : length s ≤ p → p ≡ p + length (firstLine (drop p s))
   unfolding firstLine
   end-past h = rw (drop-of-length-le s h) (omega arith)
+
+  -- It has come to the line's end where it has stopped at an LF, or at the end of the text.
+  pub end-at : p ≤ length s → (p < length s → getD s p 0 ≡ LF) → p ≡ p + length (firstLine (drop p s))
+  end-at h here = go (ltb p (length s)) refl
+    where
+      go : (t : Bool) → ltb p (length s) ≡ t → p ≡ p + length (firstLine (drop p s))
+      go true e = let inside = ltb-true p (length s) e in end-here inside (here inside)
+      go false e = end-past (ltb-false p (length s) e)
+
+-- ---- an LF among bytes
+
+no-lf : (s : List ℕ) → hasLF s ≡ false → NoLF s
+unfolding hasLF NoLF
+no-lf [] e = tt
+no-lf (c ∷ s) e = let n = neither (eqb c LF) (hasLF s) e in (eqb-false c LF (n .0), no-lf s (n .1))
+
+-- The search goes past bytes without one.
+first-after : (a s : List ℕ) → NoLF a → length (firstLine (a ++ s)) ≡ length a + length (firstLine s)
+unfolding NoLF firstLine
+first-after [] s n = omega arith
+first-after (c ∷ a) s n = rw (ne-eqb c LF (n .0)) (let rest = first-after a s (n .1) in omega arith)
+
+pub end-after : (s : List ℕ) (p k : ℕ) → p + k ≤ length s → hasLF (take k (drop p s)) ≡ false
+    → p + k + length (firstLine (drop (p + k) s)) ≡ p + length (firstLine (drop p s))
+end-after s p k h e =
+    let size : length (take k (drop p s)) ≡ k = length-take-le k (drop p s) (rw length-drop (omega arith)) in
+    let split : take k (drop p s) ++ drop (p + k) s ≡ drop p s = rw (← drop-drop) (take-append-drop k (drop p s)) in
+    let past = first-after (take k (drop p s)) (drop (p + k) s) (no-lf (take k (drop p s)) e) in
+    rw (← split) (omega arith)
+
+-- The bytes are looked at one by one.
+module _ (s : List ℕ) (i : ℕ) (found : Bool) where
+  pub lf-more : i < length s → (found || eqb (getD s i 0) LF || hasLF (drop (i + 1) s)) ≡ (found || hasLF (drop i s))
+  unfolding hasLF
+  lf-more h = rw (add-one i, drop-cons s i 0 h) (go found)
+    where
+      go : (b : Bool) → (b || eqb (getD s i 0) LF || hasLF (drop (suc i) s)) ≡ (b || (eqb (getD s i 0) LF || hasLF (drop (suc i) s)))
+      go true = refl
+      go false = refl
+
+  pub lf-past : length s ≤ i → found ≡ (found || hasLF (drop i s))
+  unfolding hasLF
+  lf-past h = rw (drop-of-length-le s h) (go found)
+    where
+      go : (b : Bool) → b ≡ (b || false)
+      go true = refl
+      go false = refl

@@ -1,7 +1,7 @@
 -- The lines of a text.
 use Prim.Native.Nat.{ℕ}
 use Prim.Native.Char.{code}
-use mathlib.Core.Bool.{Bool, true, cond}
+use mathlib.Core.Bool.{Bool, true, false, cond, _||_}
 use mathlib.Core.List.{List, [], _∷_, _++_}
 use lib.Dec.{eqb, ltb}
 use lib.ListN.{length, getD}
@@ -24,6 +24,11 @@ lines (c ∷ s) = cond (eqb c LF) ([] ∷ lines s) (inFront c (lines s))
 unfoldable pub firstLine : List ℕ → List ℕ
 firstLine [] = []
 firstLine (c ∷ s) = cond (eqb c LF) [] (c ∷ firstLine s)
+
+-- There is an LF among bytes (for the code).
+unfoldable pub hasLF : List ℕ → Bool
+hasLF [] = false
+hasLF (c ∷ s) = eqb c LF || hasLF s
 
 -- A line can end at this place: an LF stands there, or the text ends there or before (for the code: `first-ends` ties it to `firstLine`).
 abbrev pub endsLine : List ℕ → ℕ → Bool

@@ -1,59 +1,41 @@
 -- `text::lines::line_end` meets its contract.
-use Prim.Native.Nat.{_+_, _-_, _≤_}
-use mathlib.Core.Path.{_≡_, _∙_, refl}
+use mathlib.Core.Path.{_∙_}
 use native.Mathlib.Omega.{arith}
-use lib.ListN.{length, drop}
-use Rattle.text.specs.Lines.{firstLine}
-use Rattle.text.proofs.LineLaws.{end-more, end-here, end-past}
+use borrow.Author.Needs.{needs}
+use Rattle.text.proofs.LineLaws.{end-at}
 use Rattle.text.proofs.lines.line_end.Statement.{statement}
 use Rattle.text.proofs.lines.line_end.Tie as tie
 
-abbrev Inv-loop : tie.InvT-loop
-Inv-loop s from at₀ at = (at + length (firstLine (drop at s)) ≡ from + length (firstLine (drop from s))) × (at ≤ length s)
+near-end-requires : tie.Need-near-end-requires
+near-end-requires c κs = search needs
 
-abbrev μ-loop : tie.MeasureT-loop
-μ-loop s from at₀ at = length s - at
+first-lf-requires : tie.Need-first-lf-requires
+first-lf-requires c κs = search needs
 
-loop-holds : tie.Need-loop-holds Inv-loop μ-loop
-loop-holds c = (refl, omega arith)
-
-shared-slice-read-if1 : tie.Need-shared-slice-read-if1 Inv-loop μ-loop
-shared-slice-read-if1 c = omega arith
-
-returns : tie.Need-returns Inv-loop μ-loop
+returns : tie.Need-returns
 returns c =
-    let l = c .before .before .before .loop in
-    let s = c .before .before .before .before .args .s .now in
-    (end-here s (l .at) (omega arith) (c .if1 .taken) ∙ l .inv .0, omega arith)
+    let f = c .before .first-lf in
+    let inside = f .ensures .2 (c .if1 .taken) in
+    (end-at (c .before .before .before .before .args .s .now) (f .result) (omega arith) (λ h. inside) ∙ f .ensures .0, omega arith)
 
-add-at : tie.Need-add-at Inv-loop μ-loop
-add-at c = omega arith
+after-blocks-requires : tie.Need-after-blocks-requires
+after-blocks-requires c κs = search needs
 
-loop-less : tie.Need-loop-less Inv-loop μ-loop
-loop-less c = omega arith
+first-lf-requires-2 : tie.Need-first-lf-requires-2
+first-lf-requires-2 c κs = search needs
 
-loop-again : tie.Need-loop-again Inv-loop μ-loop
-loop-again c =
-    let l = c .before .before .before .loop in
-    let s = c .before .before .before .before .args .s .now in
-    (end-more s (l .at) (omega arith) (c .if1 .left) ∙ l .inv .0, omega arith)
-
-returns-2 : tie.Need-returns-2 Inv-loop μ-loop
+returns-2 : tie.Need-returns-2
 returns-2 c =
-    let l = c .before .loop in
-    let s = c .before .before .args .s .now in
-    (end-past s (l .at) (omega arith) ∙ l .inv .0, omega arith)
+    let e = c .first-lf2 .ensures in
+    (end-at (c .before .before .before .before .before .before .args .s .now) (c .first-lf2 .result) (e .1) (e .2) ∙ e .0 ∙ c .before .after-blocks .ensures .0 ∙ c .before .before .before .first-lf .ensures .0, e .1)
 
 pub line-end-spec : {M : Type 1} → statement M
 line-end-spec =
     tie.close
     (tie.spec
-    Inv-loop
-    μ-loop
-    loop-holds
-    shared-slice-read-if1
+    near-end-requires
+    first-lf-requires
     returns
-    add-at
-    loop-less
-    loop-again
+    after-blocks-requires
+    first-lf-requires-2
     returns-2)

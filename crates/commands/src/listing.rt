@@ -5,6 +5,8 @@ use lister::list;
 use memories::load_image;
 use memories::refuse_at;
 use memories::say_at;
+ghost use mathlib.Core.Path.{_≡_};
+ghost use lib.ListN.{length};
 ghost use Rattle.io.specs.Counts.{Counts};
 
 // Room for a listing of 4,096 words: a line of one has at most 46 bytes.
@@ -41,8 +43,15 @@ fn used_words(words: &[u64]) -> usize
     0
 }
 
+// Room for a listing.
+fn room() -> [u8; ROOM]
+    ensures { λ r. ⌜ 188416 ≡ length r ⌝ }
+{
+    [0u8; ROOM]
+}
+
 fn list_words(i: usize, words: &[u64]) {
-    let mut text = [0u8; ROOM];
+    let mut text = room();
     match list(words, &mut text) {
         Listed::Bytes(count) => say(&text[..count]),
         Listed::WrongLength => refuse_at(i, 1, 0),

@@ -39,7 +39,7 @@ fn main() {
     let mut left = count;
     let mut i = 1;
     while 1 < left {
-        let key = key_of(i);
+        let key = key_at(i);
         let words = words_of(key);
         if left <= words {
             return;
@@ -49,6 +49,13 @@ fn main() {
         left -= words;
         i += words;
     }
+}
+
+// The key of the step at an argument.
+fn key_at(i: usize) -> u8 {
+    let mut word = io::buffer();
+    os::arg(i, &mut word);
+    key_of(&word)
 }
 
 // Runs the step at an argument, by its key.

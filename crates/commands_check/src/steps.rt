@@ -2,14 +2,16 @@
 use console::LINE;
 use console::append;
 use console::say;
+ghost use mathlib.Core.Path.{_≡_};
 ghost use Prim.Native.Nat.{_+_, _^_, _≤_, _<_};
 ghost use lib.ListN.{length};
 ghost use Rattle.io.specs.Counts.{Counts};
+ghost use Rattle.commands_check.specs.Keys.{keyOf};
 
-// The key of the step at an argument: the first letter of its word, or the second of one that begins with s.
-pub fn key_of(i: usize) -> u8 {
-    let mut word = io::buffer();
-    os::arg(i, &mut word);
+// The key of a step by its word: the first letter, or the second of a word that begins with s.
+pub fn key_of(word: &[u8; 4096]) -> u8
+    ensures { λ r. ⌜ r ≡ keyOf (now (word .entry)) ⌝ }
+{
     if word[0] == b's' {
         return word[1];
     }

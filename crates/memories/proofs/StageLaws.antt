@@ -1,10 +1,9 @@
 -- What staging a memory or a record leaves. Assumes nothing.
 use Prim.Native.Nat.{ℕ}
-use mathlib.Core.Path.{_≡_, refl, sym, _∙_, ap}
-use mathlib.Core.Bool.{Bool, true, false, true≢false}
+use mathlib.Core.Path.{_≡_, sym, _∙_, ap}
+use mathlib.Core.Bool.{Bool, true, true≢false}
 use mathlib.Core.List.{List}
 use lib.Dec.{eqb}
-use lib.ListN.{length}
 use Rattle.text.specs.Questions.{Told}
 use Rattle.console.specs.declared.Writing.{Writing}
 use Rattle.console.specs.Writings.{noFile, Begun}

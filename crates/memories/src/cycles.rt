@@ -1,19 +1,17 @@
 // The irq2 list.
 use crate::Count;
+use crate::front::front;
 use crate::front::read_front;
 use crate::front::refuse_at;
 use files::read_irq2;
 use pieces::cycles_told;
 ghost use Rattle.memories.specs.Cycles.{RiseIn};
 
-// The bytes that decide how an irq2 file is read into 16,384 places: so many lines of 13 digits, and one byte more.
-const FRONT: usize = 229_377;
-
 // Reads the irq2 file that an argument names, of up to 16,384 cycles, and returns how many it has. They stand at the front then, and rise.
 pub fn load_irq2(i: usize, cycles: &mut [u64]) -> Count
     ensures { λ r. ⌜ RiseIn r (now (cycles .entry)) (now (cycles .exit)) ⌝ }
 {
-    let mut text = [0u8; FRONT];
+    let mut text = front();
     if let Count::Of(n) = read_front(i, &mut text) {
         return count_cycles(i, &text[..n], cycles);
     }

@@ -6,7 +6,18 @@ use console::say_of;
 use console::say_refusal;
 ghost use mathlib.Core.Path.{_≡_};
 ghost use lib.Dec.{eqb};
+ghost use lib.ListN.{length};
 ghost use Rattle.memories.specs.Front.{CountIn};
+
+// The bytes that decide how a file is read, of the longest: an irq2 file of 16,384 lines of 13 digits, and one byte more.
+const FRONT: usize = 229_377;
+
+// Room for them.
+pub fn front() -> [u8; FRONT]
+    ensures { λ r. ⌜ 229377 ≡ length r ⌝ }
+{
+    [0u8; FRONT]
+}
 
 // Reads the file that an argument names into the front of a buffer, as much as the buffer holds, and returns how many bytes; none where it can't be
 // read, as is said.

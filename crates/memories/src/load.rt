@@ -1,6 +1,7 @@
-// The memories. Of each file so many bytes are read as decide how a file of any length is read: those of all the lines that it may have, and one
-// more (`cut-read` of `files`).
+// The memories. Of each file at least so many bytes are read as decide how a file of any length is read: those of all the lines that it may have, and
+// one more (`cut-read` of `files`).
 use crate::Count;
+use crate::front::front;
 use crate::front::is_accepted;
 use crate::front::read_front;
 use files::read_data;
@@ -11,20 +12,11 @@ use pieces::file_told;
 ghost use Rattle.files.specs.Sizes.{isImageLength, isDataLength, isFrameLength, isPartLength, imageDigits, wordDigits, frameDigits};
 ghost use Rattle.memories.specs.Loading.{Loaded};
 
-// 4,096 lines of 12 digits, 4,096 and 16,384 lines of 8 digits, 65,536 lines of 2 digits; and one byte more.
-const IMAGE_FRONT: usize = 53_249;
-
-const DATA_FRONT: usize = 36_865;
-
-const DISK_FRONT: usize = 147_457;
-
-const FRAME_FRONT: usize = 196_609;
-
 // Reads the instruction file that an argument names, and answers whether it is accepted.
 pub fn load_image(i: usize, image: &mut [u64]) -> bool
     ensures { λ r. ⌜ Loaded imageDigits isImageLength r (now (image .entry)) (now (image .exit)) ⌝ }
 {
-    let mut text = [0u8; IMAGE_FRONT];
+    let mut text = front();
     if let Count::Of(n) = read_front(i, &mut text) {
         let told = file_told(read_image(&text[..n], image));
         return is_accepted(i, told.number, told.place);
@@ -36,7 +28,7 @@ pub fn load_image(i: usize, image: &mut [u64]) -> bool
 pub fn load_data(i: usize, memory: &mut [u32]) -> bool
     ensures { λ r. ⌜ Loaded wordDigits isDataLength r (now (memory .entry)) (now (memory .exit)) ⌝ }
 {
-    let mut text = [0u8; DATA_FRONT];
+    let mut text = front();
     if let Count::Of(n) = read_front(i, &mut text) {
         let told = file_told(read_data(&text[..n], memory));
         return is_accepted(i, told.number, told.place);
@@ -48,7 +40,7 @@ pub fn load_data(i: usize, memory: &mut [u32]) -> bool
 pub fn load_disk(i: usize, disk: &mut [u32]) -> bool
     ensures { λ r. ⌜ Loaded wordDigits isPartLength r (now (disk .entry)) (now (disk .exit)) ⌝ }
 {
-    let mut text = [0u8; DISK_FRONT];
+    let mut text = front();
     if let Count::Of(n) = read_front(i, &mut text) {
         let told = file_told(read_disk(&text[..n], disk));
         return is_accepted(i, told.number, told.place);
@@ -60,7 +52,7 @@ pub fn load_disk(i: usize, disk: &mut [u32]) -> bool
 pub fn load_frame(i: usize, frame: &mut [u8]) -> bool
     ensures { λ r. ⌜ Loaded frameDigits isFrameLength r (now (frame .entry)) (now (frame .exit)) ⌝ }
 {
-    let mut text = [0u8; FRAME_FRONT];
+    let mut text = front();
     if let Count::Of(n) = read_front(i, &mut text) {
         let told = file_told(read_frame(&text[..n], frame));
         return is_accepted(i, told.number, told.place);

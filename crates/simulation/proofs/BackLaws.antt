@@ -1,14 +1,14 @@
 -- Files that are written after a run. Assumes nothing.
 use Prim.Native.Nat.{ℕ}
 use mathlib.Core.Path.{_≡_, refl, sym, _∙_}
-use mathlib.Core.Bool.{Bool, true, false, true≢false, false≢true, not, _&&_}
+use mathlib.Core.Bool.{Bool, true, false, true≢false, not, _&&_}
 use mathlib.Core.Logic.{⊎-elim}
 use mathlib.Core.List.{List}
 use lib.ListN.{length}
 use borrow.Author.Tests.{not-true}
 use Rattle.text.proofs.Truth.{and-left, and-right}
 use Rattle.console.specs.declared.Writing.{Writing}
-use Rattle.console.specs.Writings.{noFile, isNoFile, Ended, Kept}
+use Rattle.console.specs.Writings.{isNoFile, Ended, Kept}
 use Rattle.files.specs.Sizes.{isDataLength, isDiskLength, isFrameLength}
 use Rattle.machine.specs.declared.Record.{Record}
 use Rattle.saved.specs.Sound.{isSound}

@@ -1,6 +1,6 @@
 -- `commands_check::main` meets its contract.
-use borrow.Author.Needs.{needs}
 use Prim.Native.Nat.{_+_, _≤_}
+use borrow.Author.Needs.{needs}
 use Rattle.commands_check.proofs.main.Statement.{statement}
 use Rattle.commands_check.proofs.main.Tie as tie
 
@@ -22,8 +22,8 @@ returns c = search needs
 loop-holds : tie.Need-loop-holds Inv-loop μ-loop
 loop-holds c = search needs
 
-key-of-requires : tie.Need-key-of-requires Inv-loop μ-loop
-key-of-requires c κs = search needs
+key-at-requires : tie.Need-key-at-requires Inv-loop μ-loop
+key-at-requires c κs = search needs
 
 words-of-requires : tie.Need-words-of-requires Inv-loop μ-loop
 words-of-requires c κs = search needs
@@ -62,7 +62,7 @@ main-spec =
     arg-count-requires
     returns
     loop-holds
-    key-of-requires
+    key-at-requires
     words-of-requires
     returns-2
     say-step-requires

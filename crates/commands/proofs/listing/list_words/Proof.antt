@@ -8,6 +8,9 @@ use Rattle.roundtrip.proofs.ListedCalls.{accepted-is}
 use Rattle.commands.proofs.listing.list_words.Statement.{statement}
 use Rattle.commands.proofs.listing.list_words.Tie as tie
 
+room-requires : tie.Need-room-requires
+room-requires c κs = search needs
+
 slice-aggregate-list : tie.Need-slice-aggregate-list
 slice-aggregate-list c = search needs
 
@@ -21,7 +24,7 @@ array-share-prefix-text : tie.Need-array-share-prefix-text
 array-share-prefix-text c =
     let told = sym (c .before .before .before .before .list .ensures .answer) ∙ ap listedTold (c .before .count .given .1) in
     let accepted = accepted-is _ _ _ told in
-    omega (arith, accepted .fits, accepted .count, c .before .before .before .before .list .kept .1 .0)
+    omega (arith, accepted .fits, accepted .count, c .before .before .before .before .list .kept .1 .0, c .before .before .before .before .before .before .room .ensures)
 
 slice-aggregate-say : tie.Need-slice-aggregate-say
 slice-aggregate-say c =
@@ -66,6 +69,7 @@ pub list-words-spec : {M : Type 1} → statement M
 list-words-spec =
     tie.close
     (tie.spec
+    room-requires
     slice-aggregate-list
     list-requires
     enum-known-count

@@ -1,7 +1,6 @@
 -- `memories::cycles::count_cycles` meets its contract.
 use borrow.Author.Needs.{needs}
 use Rattle.memories.proofs.LoadLaws.{cycles-accepted, cycles-refused}
-use Rattle.pieces.proofs.CycleLaws.{are-cycles}
 use Rattle.memories.proofs.cycles.count_cycles.Statement.{statement}
 use Rattle.memories.proofs.cycles.count_cycles.Tie as tie
 

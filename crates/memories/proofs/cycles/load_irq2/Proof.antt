@@ -4,6 +4,9 @@ use borrow.Author.Needs.{needs}
 use Rattle.memories.proofs.cycles.load_irq2.Statement.{statement}
 use Rattle.memories.proofs.cycles.load_irq2.Tie as tie
 
+front-requires : tie.Need-front-requires
+front-requires c κs = search needs
+
 slice-aggregate-read-front : tie.Need-slice-aggregate-read-front
 slice-aggregate-read-front c = search needs
 
@@ -38,6 +41,7 @@ pub load-irq2-spec : {M : Type 1} → statement M
 load-irq2-spec =
     tie.close
     (tie.spec
+    front-requires
     slice-aggregate-read-front
     read-front-requires
     enum-known-n

@@ -5,6 +5,9 @@ use Rattle.memories.proofs.LoadLaws.{loaded}
 use Rattle.memories.proofs.load.load_frame.Statement.{statement}
 use Rattle.memories.proofs.load.load_frame.Tie as tie
 
+front-requires : tie.Need-front-requires
+front-requires c κs = search needs
+
 slice-aggregate-read-front : tie.Need-slice-aggregate-read-front
 slice-aggregate-read-front c = search needs
 
@@ -45,6 +48,7 @@ pub load-frame-spec : {M : Type 1} → statement M
 load-frame-spec =
     tie.close
     (tie.spec
+    front-requires
     slice-aggregate-read-front
     read-front-requires
     enum-known-n

@@ -1,6 +1,5 @@
 -- `memories::names::has_same` meets its contract.
 use Prim.Native.Nat.{_≤_, _-_}
-use Prim.Native.Nat.{_-_}
 use mathlib.Core.Bool.{false≢true}
 use native.Mathlib.Omega.{arith}
 use borrow.Author.Needs.{needs}

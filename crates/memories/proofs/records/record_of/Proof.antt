@@ -2,7 +2,6 @@
 use mathlib.Core.Path.{sym, _∙_}
 use borrow.Author.Needs.{needs}
 use Rattle.memories.proofs.RecordLaws.{record-read, fresh-read}
-use Rattle.memories.proofs.RecordLaws.{loaded-sound}
 use Rattle.memories.proofs.records.record_of.Statement.{statement}
 use Rattle.memories.proofs.records.record_of.Tie as tie
 

@@ -1,5 +1,5 @@
 -- `memories::stage::stage_written` meets its contract.
-use mathlib.Core.Path.{refl, ap}
+use mathlib.Core.Path.{ap}
 use lib.Dec.{eqb}
 use borrow.Author.Needs.{needs}
 use Rattle.files.specs.Answers.{writtenTold}

@@ -1,0 +1,2 @@
+-- The steps in the arguments.
+pub mod Keys

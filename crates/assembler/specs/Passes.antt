@@ -37,7 +37,7 @@ pub record LabelTable (source : List ℕ) (ls : List (List ℕ)) (table values :
 abbrev pub labelsWithin : ℕ → ℕ
 labelsWithin n = n / 3 + 1
 
--- What the first pass leaves in a table and in `values`: all labels of the text; where they are not all, the table has no room for as many as a text of that length can have.
+-- What the first pass leaves in a table and in `values`: all labels of the text; where it stopped before the end of the text, the table has no room for as many as a text of that length can have.
 pub record LabelsFound (source table values : List ℕ) (r : FirstPass) : Type 0 where
   pub all : r .all ≡ true → LabelTable source (lines source) table values (r .labels)
   pub full : r .all ≡ false → length table < entryAt (labelsWithin (length source))

@@ -54,7 +54,7 @@ pub struct Refusal {
     pub line: usize,
 }
 
-// What the first pass over a text finds: how many labels; whether they are all that the text has, or the table has no room for more.
+// What the first pass over a text finds: how many labels; whether it went to the end of the text, or stopped where the table had no room for one more.
 pub struct FirstPass {
     pub labels: usize,
     pub all: bool,

@@ -31,7 +31,7 @@ pub record BegunNew (w : Writing) : Type 0 where
 abbrev pub Ended : Writing → Writing → Type 0
 Ended w r = (r ≡ w) ⊎ (r ≡ noFile)
 
--- Whether a file is in its place: never one that can't be written, always another that is not new. Of a new file the operating system decides.
+-- Whether a file is in its place: never one that can't be written, always one that can be written and is not new. Of a new file the operating system decides.
 pub record Kept (w : Writing) (r : Bool) : Type 0 where
   pub written : r ≡ true → isNoFile w ≡ false
   pub in-place : w .«is_new» ≡ false → r ≡ not (isNoFile w)

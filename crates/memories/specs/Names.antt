@@ -14,6 +14,6 @@ isDevice name = same (take 5 name) (bytes "/dev/")
 abbrev pub isNewOf : List ℕ → List ℕ → Bool
 isNewOf new name = same new (name ++ bytes ".new")
 
--- Two files would be written to one place: the names are the same, or one is the other's new file. A device may be named again.
+-- Two files, one of which at least is written, stand at one place: the names are the same, or one is the other's new file. A device may be named again.
 unfoldable pub clash : List ℕ → List ℕ → Bool
 clash a b = not (isDevice a) && (isNewOf a b || isNewOf b a || same a b)

@@ -29,6 +29,7 @@ pub use named::keep_at;
 pub use named::more_at;
 pub use names::has_same;
 pub use names::is_device_at;
+pub use names::is_given_again;
 pub use records::fresh;
 pub use records::load_record;
 pub use records::stage_record;

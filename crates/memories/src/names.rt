@@ -15,8 +15,7 @@ pub fn has_same(first: usize, read: usize, count: usize) -> bool
 {
     let mut i = read;
     while i < count {
-        if is_again(first, i) {
-            say_at(first + i, b" is given for two files; nothing is written\n");
+        if is_given_again(first + i, first, i) {
             return true;
         }
         i += 1;
@@ -24,14 +23,15 @@ pub fn has_same(first: usize, read: usize, count: usize) -> bool
     false
 }
 
-// Whether the argument that stands i places after the first gives the name of one before it, and no device's.
-fn is_again(first: usize, i: usize) -> bool
-    requires { ⌜ first + i < 2 ^ 64 ⌝ }
-    ensures { λ r. ⌜ (r ≡ true → 0 < i) ⌝ }
+// Whether an argument gives the name of one of so many arguments from `first` on, or one is the other's `.new`; says so. Devices may be named again.
+pub fn is_given_again(i: usize, first: usize, count: usize) -> bool
+    requires { ⌜ first + count < 2 ^ 64 ⌝ }
+    ensures { λ r. ⌜ (r ≡ true → 0 < count) ⌝ }
 {
     let mut k = 0;
-    while k < i {
-        if gives_same(first + k, first + i) {
+    while k < count {
+        if gives_same(first + k, i) {
+            say_at(i, b" is given for two files; nothing is written\n");
             return true;
         }
         k += 1;
@@ -39,7 +39,7 @@ fn is_again(first: usize, i: usize) -> bool
     false
 }
 
-// Whether the files that two arguments name would be written to one place.
+// Whether two arguments give names that clash.
 fn gives_same(i: usize, j: usize) -> bool {
     let mut first = io::buffer();
     let n = os::arg(i, &mut first);
@@ -48,7 +48,7 @@ fn gives_same(i: usize, j: usize) -> bool {
     do_clash(&first[..n], &second[..m])
 }
 
-// Whether two names are the same, and no device's, or one is the other's `.new`.
+// Whether two names are the same, or one is the other's `.new`; a device's is never.
 fn do_clash(a: &[u8], b: &[u8]) -> bool
     ensures { λ r. ⌜ r ≡ clash (now (a .entry)) (now (b .entry)) ⌝ }
 {

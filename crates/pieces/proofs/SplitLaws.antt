@@ -91,8 +91,8 @@ module _ (image irq2 : List ℕ) where
   with-whole letter b none = refl
   with-whole letter b (ended l) = ap (linesWith letter) (append-assoc l (LF ∷ []) b) ∙ with-joined letter l b
 
-  -- A run of n + k cycles, cut after n: each of trace.txt, hwregtrace.txt, leds.txt and display7seg.txt gets the lines of the first piece and then those of
-  -- the second, and these are the lines of the whole.
+  -- A run of n + k cycles, cut after n: the texts of trace.txt, hwregtrace.txt, leds.txt and display7seg.txt are those of the first piece and then those of
+  -- the second.
   pub split-in-pieces : (letter n k : ℕ) (m : Machine)
       → linesWith letter (linesOf image irq2 n m) ++ linesWith letter (linesOf image irq2 k (machineAfter image irq2 n m)) ≡ linesWith letter (linesOf image irq2 (n + k) m)
   split-in-pieces letter n k m =

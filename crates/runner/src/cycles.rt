@@ -40,6 +40,7 @@ pub fn make_cycles(
     let mut c = start;
     let mut awaited = first_awaited(irq2, start.age);
     let mut at = 0;
+    // A stamp that serves no cycle yet.
     let mut stamp = [0u64; 7];
     let last = last_age(start.age, budget);
     while c.age < last {

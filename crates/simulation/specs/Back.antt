@@ -10,7 +10,7 @@ use Rattle.files.specs.Sizes.{isDataLength, isDiskLength, isFrameLength}
 use Rattle.machine.specs.declared.Record.{Record}
 use Rattle.saved.specs.Sound.{isSound}
 
--- Five files are whole.
+-- Of five files none is one that can't be written.
 abbrev pub areStaged : (a b c d e : Writing) → Bool
 areStaged a b c d e = not (isNoFile a) && not (isNoFile b) && not (isNoFile c) && not (isNoFile d) && not (isNoFile e)
 

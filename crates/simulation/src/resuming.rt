@@ -10,6 +10,7 @@ use memories::Count;
 use memories::abandon_at;
 use memories::end_at;
 use memories::has_same;
+use memories::is_given_again;
 use memories::is_missing_at;
 use memories::load_data;
 use memories::load_disk;
@@ -30,7 +31,7 @@ ghost use Rattle.machine.specs.Soundness.{Sound};
 pub fn resume(first: usize)
     requires { ⌜ first + 8 < 2 ^ 64 ⌝ }
 {
-    if has_same(first, 1, 8) {
+    if has_clash(first) {
         return;
     }
     if let Count::Of(budget) = read_budget(first + 6) {
@@ -43,6 +44,20 @@ pub fn resume(first: usize)
             resume_image(first, &image, &cycles[..n], budget as u64);
         }
     }
+}
+
+// Whether one of the files that are written has the name of another file: the four after the instruction file, which is read, and the log; the
+// irq2 file is read too, and what stands between it and the log is a number.
+fn has_clash(first: usize) -> bool
+    requires { ⌜ first + 8 < 2 ^ 64 ⌝ }
+{
+    if has_same(first, 1, 5) {
+        return true;
+    }
+    if is_given_again(first + 5, first + 1, 4) {
+        return true;
+    }
+    is_given_again(first + 7, first, 6)
 }
 
 // The same with the image and the irq2 list.

@@ -14,7 +14,7 @@ ghost use mathlib.Core.Bool.{true};
 ghost use Prim.Native.Nat.{_+_, _^_, _<_};
 ghost use Rattle.simulation.specs.Back.{areStaged, CanBeBack};
 
-// Writes all of them, or none, and answers whether they are there then.
+// Writes all of them, or none unless putting one into its place fails after others, and answers whether they are there then.
 pub fn write_back(
     first: usize,
     log: Writing,

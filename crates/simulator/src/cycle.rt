@@ -23,7 +23,7 @@ ghost use Rattle.text.specs.Place.{put};
 ghost use Rattle.isa.specs.Word.{Fitting as FieldsFit, signExtended};
 ghost use Rattle.isa.specs.Operations.{operationOf};
 ghost use Rattle.trace.specs.LogLines.{lineT};
-ghost use Rattle.trace.specs.Stamps.{Stamped, Stamps};
+ghost use Rattle.trace.specs.Stamps.{Serves, IsStamp};
 ghost use Rattle.machine.specs.declared.Core.{Core as CoreOf};
 ghost use Rattle.machine.specs.Execution.{registersOf, operandsOf, fetchedAndExecuted};
 ghost use Rattle.machine.specs.Cycle.{timerStepped, diskStepped, counted, atFetch};
@@ -49,10 +49,10 @@ pub fn cycle(
     stamp: &mut [u64; 7],
 ) -> Step
     requires { ⌜ Sound c (drop 3 (now regs)) (now io) ⌝ }
-    requires { ⌜ (length (now image) ≡ 4096) × (Kept (now regs) (now text) × (HexWords (now table) × (Sized (now memory) (now disk) (now frame) × Stamps (now stamp)))) ⌝ }
+    requires { ⌜ (length (now image) ≡ 4096) × (Kept (now regs) (now text) × (HexWords (now table) × (Sized (now memory) (now disk) (now frame) × IsStamp (now stamp)))) ⌝ }
     requires { ⌜ at + length (linesAtFetch (now image) (atFetch hit (packed c (now regs) (now io) (now memory) (now disk) (now frame)))) ≤ length (now log) ⌝ }
     ensures { λ r. ⌜ traced (packed (r .core) (now (regs .exit)) (now (io .exit)) (now (memory .exit)) (now (disk .exit)) (now (frame .exit))) (now (log .exit)) (r .at) ≡ tracedOn (now (image .entry)) hit (traced (packed c (now (regs .entry)) (now (io .entry)) (now (memory .entry)) (now (disk .entry)) (now (frame .entry))) (now (log .entry)) at) ⌝ }
-    ensures { λ r. ⌜ Kept (now (regs .exit)) (now (text .exit)) × Stamps (now (stamp .exit)) ⌝ }
+    ensures { λ r. ⌜ Kept (now (regs .exit)) (now (text .exit)) × IsStamp (now (stamp .exit)) ⌝ }
 {
     keep_stamp(stamp, c.age);
     let began = c.left;
@@ -93,7 +93,7 @@ fn fetch_and_execute(
     table: &[u64; 1024],
     stamp: &[u64; 7],
 ) -> Step
-    requires { ⌜ (c .pc < 4096) × ((length (now image) ≡ 4096) × Stamped (c .age) (now stamp)) ⌝ }
+    requires { ⌜ (c .pc < 4096) × ((length (now image) ≡ 4096) × Serves (c .age) (now stamp)) ⌝ }
     requires { ⌜ Kept (now regs) (now text) × (HexWords (now table) × Ready (now io) (now memory) (now disk) (now frame)) ⌝ }
     requires { ⌜ at + length (linesAtFetch (now image) (packed c (now regs) (now io) (now memory) (now disk) (now frame))) ≤ length (now log) ⌝ }
     ensures { λ r. ⌜ packed (r .core) (now (regs .exit)) (now (io .exit)) (now (memory .exit)) (now (disk .exit)) (now (frame .exit)) ≡ fetchedAndExecuted (now (image .entry)) (packed c (now (regs .entry)) (now (io .entry)) (now (memory .entry)) (now (disk .entry)) (now (frame .entry))) ⌝ }
@@ -144,7 +144,7 @@ fn put_lines(
     table: &[u64; 1024],
     stamp: &[u64; 7],
 ) -> usize
-    requires { ⌜ (at + length (lineT (c .pc) word (now regs) ++ ioLines (c .age) (operationOf op) o (now io)) ≤ length (now log)) × (Kept (now regs) (now text) × (HexWords (now table) × Stamped (c .age) (now stamp))) ⌝ }
+    requires { ⌜ (at + length (lineT (c .pc) word (now regs) ++ ioLines (c .age) (operationOf op) o (now io)) ≤ length (now log)) × (Kept (now regs) (now text) × (HexWords (now table) × Serves (c .age) (now stamp))) ⌝ }
     requires { ⌜ (getD (now regs) 1 0 ≡ signExtended (word / 2 ^ 12 % 2 ^ 12)) × (getD (now regs) 2 0 ≡ signExtended (word % 2 ^ 12)) ⌝ }
     ensures { λ r. ⌜ (now (log .exit) ≡ put (now (log .entry)) at (lineT (c .pc) word (now (regs .entry)) ++ ioLines (c .age) (operationOf op) o (now (io .entry)))) × (r ≡ at + length (lineT (c .pc) word (now (regs .entry)) ++ ioLines (c .age) (operationOf op) o (now (io .entry)))) ⌝ }
 {

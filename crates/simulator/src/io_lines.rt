@@ -16,7 +16,7 @@ ghost use Rattle.text.specs.Numerals.{HexWords};
 ghost use Rattle.text.specs.Place.{put};
 ghost use Rattle.isa.specs.Operations.{operationOf, input, output};
 ghost use Rattle.trace.specs.LogLines.{lineLD};
-ghost use Rattle.trace.specs.Stamps.{Stamped};
+ghost use Rattle.trace.specs.Stamps.{Serves};
 ghost use Rattle.machine.specs.Log.{changeLines, ioLines};
 
 // Lays the lines of an instruction at a place and returns the place after them; `c` is the cycle, which the stamp serves.
@@ -30,7 +30,7 @@ pub fn put_io_lines(
     table: &[u64; 1024],
     stamp: &[u64; 7],
 ) -> usize
-    requires { ⌜ (at + length (ioLines c (operationOf op) o (now io)) ≤ length (now log)) × (HexWords (now table) × Stamped c (now stamp)) ⌝ }
+    requires { ⌜ (at + length (ioLines c (operationOf op) o (now io)) ≤ length (now log)) × (HexWords (now table) × Serves c (now stamp)) ⌝ }
     ensures { λ r. ⌜ (now (log .exit) ≡ put (now (log .entry)) at (ioLines c (operationOf op) o (now (io .entry)))) × (r ≡ at + length (ioLines c (operationOf op) o (now (io .entry)))) ⌝ }
 {
     match op {
@@ -50,7 +50,7 @@ fn put_read_line(
     table: &[u64; 1024],
     stamp: &[u64; 7],
 ) -> usize
-    requires { ⌜ (at + length (ioLines c input o (now io)) ≤ length (now log)) × (HexWords (now table) × Stamped c (now stamp)) ⌝ }
+    requires { ⌜ (at + length (ioLines c input o (now io)) ≤ length (now log)) × (HexWords (now table) × Serves c (now stamp)) ⌝ }
     ensures { λ r. ⌜ (now (log .exit) ≡ put (now (log .entry)) at (ioLines c input o (now (io .entry)))) × (r ≡ at + length (ioLines c input o (now (io .entry)))) ⌝ }
 {
     let a = plus(o.rs, o.rt);
@@ -70,7 +70,7 @@ fn put_write_lines(
     table: &[u64; 1024],
     stamp: &[u64; 7],
 ) -> usize
-    requires { ⌜ (at + length (ioLines c output o (now io)) ≤ length (now log)) × (HexWords (now table) × Stamped c (now stamp)) ⌝ }
+    requires { ⌜ (at + length (ioLines c output o (now io)) ≤ length (now log)) × (HexWords (now table) × Serves c (now stamp)) ⌝ }
     ensures { λ r. ⌜ (now (log .exit) ≡ put (now (log .entry)) at (ioLines c output o (now (io .entry)))) × (r ≡ at + length (ioLines c output o (now (io .entry)))) ⌝ }
 {
     let a = plus(o.rs, o.rt);
@@ -92,7 +92,7 @@ fn put_change_line(
     table: &[u64; 1024],
     stamp: &[u64; 7],
 ) -> usize
-    requires { ⌜ (at + length (changeLines c n x (now io)) ≤ length (now log)) × (HexWords (now table) × Stamped c (now stamp)) ⌝ }
+    requires { ⌜ (at + length (changeLines c n x (now io)) ≤ length (now log)) × (HexWords (now table) × Serves c (now stamp)) ⌝ }
     ensures { λ r. ⌜ (now (log .exit) ≡ put (now (log .entry)) at (changeLines c n x (now (io .entry)))) × (r ≡ at + length (changeLines c n x (now (io .entry)))) ⌝ }
 {
     match n {
@@ -113,7 +113,7 @@ fn put_if_new(
     table: &[u64; 1024],
     stamp: &[u64; 7],
 ) -> usize
-    requires { ⌜ (at + length (cond (not (eqb x before)) (lineLD (letter ∷ []) c x) []) ≤ length (now log)) × (HexWords (now table) × Stamped c (now stamp)) ⌝ }
+    requires { ⌜ (at + length (cond (not (eqb x before)) (lineLD (letter ∷ []) c x) []) ≤ length (now log)) × (HexWords (now table) × Serves c (now stamp)) ⌝ }
     ensures { λ r. ⌜ (now (log .exit) ≡ put (now (log .entry)) at (cond (not (eqb x before)) (lineLD (letter ∷ []) c x) [])) × (r ≡ at + length (cond (not (eqb x before)) (lineLD (letter ∷ []) c x) [])) ⌝ }
 {
     if x == before {

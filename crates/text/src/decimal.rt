@@ -99,7 +99,7 @@ pub fn put_decimal_digits(out: &mut [u8], at: usize, k: usize, v: u64)
     }
 }
 
-// The k low decimal digits of v in a number, and what is left of v without them.
+// The k low decimal digits of v in a number, the first in its low byte, and what is left of v without them.
 pub fn take_digits(v: u64, k: usize) -> Taken
     requires { ⌜ k ≤ 8 ⌝ }
     ensures { λ r. ⌜ (lowBytes k (r .held) ≡ digits 10 k v) × ((r .held < 256 ^ k) × (r .rest ≡ v / 10 ^ k)) ⌝ }

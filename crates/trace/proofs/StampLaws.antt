@@ -18,7 +18,7 @@ use Rattle.text.proofs.DigitLaws.{digits-split, digits-low}
 use Rattle.text.proofs.DecimalLaws.{count-pos, count-one, count-is, count-hundreds, count-le, decimal-one, decimal-two, decimal-hundreds, halves-digits}
 use Rattle.text.proofs.HexWordLaws.{length-low, low-split, low-front, pair, pair-bytes, entry-pair}
 use Rattle.trace.specs.LogLines.{field}
-use Rattle.trace.specs.Stamps.{cycleFront, lastTwo, Spells, Stamps}
+use Rattle.trace.specs.Stamps.{cycleFront, lastTwo, Spells, IsStamp}
 
 -- ---- the last two characters
 
@@ -150,7 +150,7 @@ kept-is (_ ∷ _ ∷ _ ∷ _ ∷ _ ∷ _ ∷ _ ∷ []) a b d e f g h n = refl
 kept-is (_ ∷ _ ∷ _ ∷ _ ∷ _ ∷ _ ∷ _ ∷ _ ∷ _) a b d e f g h n = absurd (omega arith)
 
 -- Seven zeros are a stamp of no cycle.
-pub no-stamp : Stamps (replicate 7 0)
+pub no-stamp : IsStamp (replicate 7 0)
 no-stamp = record { seven = refl; each = λ c l h. absurd (omega arith) }
 
 -- ---- laying it

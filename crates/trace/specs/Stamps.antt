@@ -31,9 +31,11 @@ SpellsAll s = (c : ℕ) → s .first ≤ c → c < s .until → Spells (s .base)
 
 -- ---- as the code keeps it: seven numbers in the order first, until, base, lowered, count, held, more
 
-abbrev pub Stamped : ℕ → List ℕ → Type 0
-Stamped c kept = Spells (getD kept 2 0) (getD kept 3 0) (getD kept 4 0) (getD kept 5 0) (getD kept 6 0) c
+-- It serves the cycle c.
+abbrev pub Serves : ℕ → List ℕ → Type 0
+Serves c kept = Spells (getD kept 2 0) (getD kept 3 0) (getD kept 4 0) (getD kept 5 0) (getD kept 6 0) c
 
-pub record Stamps (kept : List ℕ) : Type 0 where
+-- It serves each cycle from its first one to the one before `until`.
+pub record IsStamp (kept : List ℕ) : Type 0 where
   pub seven : length kept ≡ 7
-  pub each : (c : ℕ) → getD kept 0 0 ≤ c → c < getD kept 1 0 → Stamped c kept
+  pub each : (c : ℕ) → getD kept 0 0 ≤ c → c < getD kept 1 0 → Serves c kept

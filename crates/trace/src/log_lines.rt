@@ -17,7 +17,7 @@ ghost use Rattle.text.specs.Numerals.{digits, lowBytes, HexWords};
 ghost use Rattle.text.specs.Place.{put};
 ghost use Rattle.isa.specs.Word.{signExtended};
 ghost use Rattle.trace.specs.LogLines.{field, frontT, lineH, lineLD, wayOf};
-ghost use Rattle.trace.specs.Stamps.{Stamped};
+ghost use Rattle.trace.specs.Stamps.{Serves};
 
 // The digits that an immediate below 2,048 gets in front, and those that another gets.
 const FIVE_0: u64 = 0x30_3030_3030;
@@ -48,7 +48,7 @@ pub fn put_line_t(
     put_bytes(out, at + 45, kept)
 }
 
-// The front of a T line, 18 bytes: its letter, PC and the word. `low` holds the word's last eight digits.
+// The first 18 bytes of a T line: its letter, PC and the word. `low` holds the word's last eight digits.
 fn put_instruction(out: &mut [u8], at: usize, pc: u32, word: u64, low: u64, table: &[u64; 1024])
     requires { ⌜ (at + 18 ≤ length (now out)) × (HexWords (now table) × (lowBytes 8 low ≡ digits 16 8 (word % 2 ^ 32))) ⌝ }
     ensures { λ _. ⌜ now (out .exit) ≡ put (now (out .entry)) at (bytes "T" ++ field (digits 16 3 pc) ++ field (digits 16 12 word)) ⌝ }
@@ -102,7 +102,7 @@ pub fn put_line_h(
     table: &[u64; 1024],
     stamp: &[u64; 7],
 ) -> usize
-    requires { ⌜ (at + length (lineH c (wayOf writes) n x) ≤ length (now out)) × (HexWords (now table) × Stamped c (now stamp)) ⌝ }
+    requires { ⌜ (at + length (lineH c (wayOf writes) n x) ≤ length (now out)) × (HexWords (now table) × Serves c (now stamp)) ⌝ }
     ensures { λ r. ⌜ (now (out .exit) ≡ put (now (out .entry)) at (lineH c (wayOf writes) n x)) × (r ≡ at + length (lineH c (wayOf writes) n x)) ⌝ }
 {
     let held = hex_word(x, table);
@@ -125,7 +125,7 @@ pub fn put_line_ld(
     table: &[u64; 1024],
     stamp: &[u64; 7],
 ) -> usize
-    requires { ⌜ (at + length (lineLD (letter ∷ []) c x) ≤ length (now out)) × (HexWords (now table) × Stamped c (now stamp)) ⌝ }
+    requires { ⌜ (at + length (lineLD (letter ∷ []) c x) ≤ length (now out)) × (HexWords (now table) × Serves c (now stamp)) ⌝ }
     ensures { λ r. ⌜ (now (out .exit) ≡ put (now (out .entry)) at (lineLD (letter ∷ []) c x)) × (r ≡ at + length (lineLD (letter ∷ []) c x)) ⌝ }
 {
     let held = hex_word(x, table);

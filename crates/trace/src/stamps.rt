@@ -12,7 +12,7 @@ ghost use lib.Dec.{ltb};
 ghost use lib.ListN.{length};
 ghost use Rattle.text.specs.Numerals.{digit, digitCount, lowBytes, HexWords};
 ghost use Rattle.text.specs.Place.{put};
-ghost use Rattle.trace.specs.Stamps.{cycleFront, SpellsAll, Stamped, Stamps};
+ghost use Rattle.trace.specs.Stamps.{cycleFront, SpellsAll, Serves, IsStamp};
 
 // Where the numbers stand that are kept.
 const FIRST: usize = 0;
@@ -34,8 +34,8 @@ const BLANK: u64 = 0x2000;
 
 // Keeps a stamp that serves the cycle c: the old one, or one that is made anew.
 pub fn keep_stamp(kept: &mut [u64; 7], c: u64)
-    requires { ⌜ Stamps (now kept) × (c < 2 ^ 40) ⌝ }
-    ensures { λ _. ⌜ Stamps (now (kept .exit)) × Stamped c (now (kept .exit)) ⌝ }
+    requires { ⌜ IsStamp (now kept) × (c < 2 ^ 40) ⌝ }
+    ensures { λ _. ⌜ IsStamp (now (kept .exit)) × Serves c (now (kept .exit)) ⌝ }
 {
     if c < kept[FIRST] {
         store_stamp(kept, stamp_of(c), c);
@@ -50,7 +50,7 @@ pub fn keep_stamp(kept: &mut [u64; 7], c: u64)
 // Keeps a stamp that serves the cycle c.
 fn store_stamp(kept: &mut [u64; 7], s: Stamp, c: u64)
     requires { ⌜ (length (now kept) ≡ 7) × (SpellsAll s × ((s .first ≤ c) × (c < s .until))) ⌝ }
-    ensures { λ _. ⌜ Stamps (now (kept .exit)) × Stamped c (now (kept .exit)) ⌝ }
+    ensures { λ _. ⌜ IsStamp (now (kept .exit)) × Serves c (now (kept .exit)) ⌝ }
 {
     kept[FIRST] = s.first;
     kept[UNTIL] = s.until;
@@ -131,7 +131,7 @@ pub fn put_cycle(
     kept: &[u64; 7],
     table: &[u64; 1024],
 ) -> usize
-    requires { ⌜ (at + digitCount 10 c + 7 ≤ length (now out)) × (HexWords (now table) × Stamped c (now kept)) ⌝ }
+    requires { ⌜ (at + digitCount 10 c + 7 ≤ length (now out)) × (HexWords (now table) × Serves c (now kept)) ⌝ }
     ensures { λ r. ⌜ (r ≡ at + 2 + digitCount 10 c) × ((rest : List ℕ) → 5 ≤ length rest → put (now (out .exit)) r rest ≡ put (now (out .entry)) at (cycleFront letter c ++ rest)) ⌝ }
 {
     let count = kept[COUNT] as usize;

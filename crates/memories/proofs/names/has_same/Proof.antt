@@ -7,28 +7,22 @@ use Rattle.memories.proofs.names.has_same.Statement.{statement}
 use Rattle.memories.proofs.names.has_same.Tie as tie
 
 abbrev Inv-loop : tie.InvT-loop
-Inv-loop first read count i₀ t5 i = read ≤ i
+Inv-loop first read count i₀ i = read ≤ i
 
 abbrev μ-loop : tie.MeasureT-loop
-μ-loop first read count i₀ t5 i = count - i
+μ-loop first read count i₀ i = count - i
 
 loop-holds : tie.Need-loop-holds Inv-loop μ-loop
 loop-holds c = search needs
 
-is-again-requires : tie.Need-is-again-requires Inv-loop μ-loop
-is-again-requires c κs = search needs
+add-is-given-again : tie.Need-add-is-given-again Inv-loop μ-loop
+add-is-given-again c = search needs
 
-add-say-at : tie.Need-add-say-at Inv-loop μ-loop
-add-say-at c = search needs
-
-slice-aggregate-say-at : tie.Need-slice-aggregate-say-at Inv-loop μ-loop
-slice-aggregate-say-at c = search needs
-
-say-at-requires : tie.Need-say-at-requires Inv-loop μ-loop
-say-at-requires c κs = search needs
+is-given-again-requires : tie.Need-is-given-again-requires Inv-loop μ-loop
+is-given-again-requires c κs = search needs
 
 returns : tie.Need-returns Inv-loop μ-loop
-returns c e = omega arith
+returns c = λ e. omega arith
 
 add-i : tie.Need-add-i Inv-loop μ-loop
 add-i c = search needs
@@ -40,7 +34,7 @@ loop-again : tie.Need-loop-again Inv-loop μ-loop
 loop-again c = search needs
 
 returns-2 : tie.Need-returns-2 Inv-loop μ-loop
-returns-2 c e = absurd (false≢true e)
+returns-2 c = λ e. absurd (false≢true e)
 
 pub has-same-spec : {M : Type 1} → statement M
 has-same-spec =
@@ -49,10 +43,8 @@ has-same-spec =
     Inv-loop
     μ-loop
     loop-holds
-    is-again-requires
-    add-say-at
-    slice-aggregate-say-at
-    say-at-requires
+    add-is-given-again
+    is-given-again-requires
     returns
     add-i
     loop-less

@@ -6,7 +6,7 @@ use lib.ListN.{length}
 use borrow.Author.Tests.{not-true, not-false}
 use borrow.Author.Needs.{needs}
 use Rattle.machine.specs.declared.Core.{Core}
-use Rattle.trace.specs.Stamps.{Stamps}
+use Rattle.trace.specs.Stamps.{IsStamp}
 use Rattle.trace.proofs.StampLaws.{no-stamp}
 use Rattle.executor.specs.Lent.{packed}
 use Rattle.runner.specs.Irq2Place.{awaitedAt}
@@ -23,7 +23,7 @@ Inv-loop start regs₀ text₀ io₀ image memory₀ disk₀ frame₀ irq2 budge
     × (length log ≡ length log₀) × (length memory ≡ length memory₀) × (length disk ≡ length disk₀) × (length frame ≡ length frame₀)
     × (start .age ≤ c .age) × (c .age ≤ last)
     × (awaited .cycle ≡ awaitedAt (awaited .place) irq2)
-    × Stamps stamp
+    × IsStamp stamp
 
 abbrev μ-loop : tie.MeasureT-loop
 μ-loop start regs₀ text₀ io₀ image memory₀ disk₀ frame₀ irq2 budget log₀ table c₀ awaited₀ at₀ stamp₀ last regs text io memory disk frame log c awaited at stamp = last - c .age

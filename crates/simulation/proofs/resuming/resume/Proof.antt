@@ -5,8 +5,8 @@ use borrow.Author.Needs.{needs}
 use Rattle.simulation.proofs.resuming.resume.Statement.{statement}
 use Rattle.simulation.proofs.resuming.resume.Tie as tie
 
-has-same-requires : tie.Need-has-same-requires
-has-same-requires c κs = search needs
+has-clash-requires : tie.Need-has-clash-requires
+has-clash-requires c κs = search needs
 
 returns : tie.Need-returns
 returns c = search needs
@@ -69,7 +69,7 @@ pub resume-spec : {M : Type 1} → statement M
 resume-spec =
     tie.close
     (tie.spec
-    has-same-requires
+    has-clash-requires
     returns
     add-read-budget
     read-budget-requires

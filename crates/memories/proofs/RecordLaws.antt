@@ -6,6 +6,7 @@ use mathlib.Core.List.{List, [], _∷_}
 use native.Mathlib.Omega.{arith}
 use lib.Dec.{eqb}
 use lib.ListN.{length, getD}
+use borrow.Author.Tests.{eqb-true, eq-eqb, ne-eqb}
 use Rattle.text.specs.Questions.{Told, accepted, firstNo, unlessRefused}
 use Rattle.text.proofs.QuestionLaws.{first-yes}
 use Rattle.machine.specs.declared.Record.{Record}
@@ -15,11 +16,10 @@ use Rattle.saved.specs.Sound.{isSound}
 use Rattle.saved.specs.Layout.{edition, recordBytes, recordOf, savedFields}
 use Rattle.saved.specs.Calls.{freshRecord, saveTold, loadTold, loadRecord}
 use Rattle.saved.specs.declared.LoadAnswer.{LoadAnswer}
-use Rattle.saved.specs.declared.LoadAnswer.the-variants.{Loaded, WrongLength, OtherEdition, Unsound}
 use Rattle.saved.specs.Answers.{loadedTold}
 use Rattle.saved.proofs.SoundTest.{sound-yes}
 use Rattle.memories.specs.declared.RecordRead.{RecordRead}
-use Rattle.memories.specs.Records.{SoundRead, FreshRead}
+use Rattle.memories.specs.Records.{ReadFrom, LoadedIf, SoundRead, FreshRead}
 
 abbrev IsSound : Record → Type 0
 IsSound r = Sound (r .core) (r .regs) (r .io)
@@ -36,16 +36,32 @@ loaded-sound state bytes e = rw e (asked (eqb (length bytes) recordBytes) (eqb (
 
 -- ---- a record that is read
 
-accepts : (a : LoadAnswer) → loadedTold a .number ≡ 0 → loadedTold a ≡ accepted 0
-accepts Loaded e = refl
-accepts WrongLength e = absurd (omega arith)
-accepts OtherEdition e = absurd (omega arith)
-accepts Unsound e = absurd (omega arith)
+-- From its bytes: read, ..
+module _ (bytes : List ℕ) (a : LoadAnswer) (told : loadedTold a ≡ loadTold bytes) where
+  pub record-read : (state : Record) → state ≡ loadRecord bytes → loadedTold a .number ≡ 0 → ReadFrom bytes (record { state = state; «is_read» = true })
+  record-read state is none =
+      record { read = sym (eq-eqb (loadTold bytes .number) 0 (ap (λ (t : Told). t .number) (sym told) ∙ none)); is = is; sound = loaded-sound state bytes is }
 
-pub record-read : (state : Record) (bytes : List ℕ) (a : LoadAnswer) → (loadedTold a ≡ loadTold bytes) × (state ≡ loadRecord bytes) → loadedTold a .number ≡ 0
-    → SoundRead (record { state = state; «is_read» = true })
-record-read state bytes a (told, is) none =
-    record { sound = loaded-sound state bytes is; loaded = record { bytes = bytes; told = sym told ∙ accepts a none; is = is } }
+  -- .. or refused.
+  pub record-refused : (r : RecordRead) → FreshRead false r → (loadedTold a .number ≡ 0 → ⊥) → ReadFrom bytes r
+  record-refused r fresh some =
+      let no = ne-eqb (loadTold bytes .number) 0 (λ e. some (ap (λ (t : Told). t .number) told ∙ e)) in
+      record { read = fresh .read ∙ sym no; is = fresh .state ∙ rw no; sound = fresh .sound }
+
+-- Where no number is told, the bytes are accepted: with any answers to the questions.
+told-none : (a b c : Bool) → firstNo ((1, a) ∷ (14, b) ∷ (13, c) ∷ []) 0 (accepted 0) .number ≡ 0 → firstNo ((1, a) ∷ (14, b) ∷ (13, c) ∷ []) 0 (accepted 0) ≡ accepted 0
+told-none true true true e = refl
+told-none true true false e = absurd (omega arith)
+told-none true false c e = absurd (omega arith)
+told-none false b c e = absurd (omega arith)
+
+-- The bytes need not be named.
+pub sound-read : (bytes : List ℕ) (r : RecordRead) → ReadFrom bytes r → SoundRead r
+sound-read bytes r from = record { sound = from .sound; loaded = go (r .«is_read») (from .read) }
+  where
+    go : (b : Bool) → b ≡ eqb (loadTold bytes .number) 0 → LoadedIf b (r .state)
+    go true e = record { bytes = bytes; told = told-none (eqb (length bytes) recordBytes) (eqb (getD (savedFields bytes) 0 0) edition) (isSound (recordOf (savedFields bytes))) (eqb-true (loadTold bytes .number) 0 (sym e)); is = from .is }
+    go false e = from .is ∙ rw (← e)
 
 -- The fresh one.
 pub fresh-read : (r : RecordRead) → FreshRead false r → SoundRead r

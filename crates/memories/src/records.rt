@@ -15,7 +15,7 @@ use saved::save;
 ghost use mathlib.Core.Path.{_≡_};
 ghost use Rattle.saved.specs.Answers.{loadedTold};
 ghost use Rattle.saved.specs.Sound.{isSound};
-ghost use Rattle.memories.specs.Records.{SoundRead, FreshRead};
+ghost use Rattle.memories.specs.Records.{ReadFrom, SoundRead, FreshRead};
 ghost use Rattle.memories.specs.Staging.{Staged};
 
 // The bytes of a saved record.
@@ -35,9 +35,9 @@ pub fn load_record(i: usize) -> RecordRead
     fresh(false)
 }
 
-// The record that bytes hold.
+// The record that bytes hold; the fresh record where they are refused, as is said.
 fn record_of(i: usize, bytes: &[u8]) -> RecordRead
-    ensures { λ r. ⌜ SoundRead r ⌝ }
+    ensures { λ r. ⌜ ReadFrom (now (bytes .entry)) r ⌝ }
 {
     let loaded = load(bytes);
     let answer = loaded.answer;

@@ -29,7 +29,7 @@ same-length : tie.Need-same-length
 same-length c = search needs
 
 returns : tie.Need-returns
-returns c = c .before .before .count-cycles .ensures
+returns c = c .before .before .count-cycles .ensures .1
 
 enum-told : tie.Need-enum-told
 enum-told c = search needs

@@ -20,23 +20,17 @@ enum-known-n c = search needs
 array-share-prefix-text : tie.Need-array-share-prefix-text
 array-share-prefix-text c = let got = rw (c .before .n .given .1) at (c .before .before .before .before .read-front .ensures) in got .0
 
-slice-aggregate-read-data : tie.Need-slice-aggregate-read-data
-slice-aggregate-read-data c = let got = rw (c .before .before .n .given .1) at (c .before .before .before .before .before .read-front .ensures) in got .1
+slice-aggregate-fill-data : tie.Need-slice-aggregate-fill-data
+slice-aggregate-fill-data c = let got = rw (c .before .before .n .given .1) at (c .before .before .before .before .before .read-front .ensures) in got .1
 
-read-data-requires : tie.Need-read-data-requires
-read-data-requires c κs = search needs
-
-file-told-requires : tie.Need-file-told-requires
-file-told-requires c κs = search needs
-
-is-accepted-requires : tie.Need-is-accepted-requires
-is-accepted-requires c κs = search needs
+fill-data-requires : tie.Need-fill-data-requires
+fill-data-requires c κs = search needs
 
 same-length : tie.Need-same-length
 same-length c = search needs
 
 returns : tie.Need-returns
-returns c = loaded (c .before .before .before .before .read-data .ensures) _ (c .before .file-told .ensures) _ (c .is-accepted .ensures)
+returns c = loaded (c .before .before .fill-data .ensures)
 
 enum-told : tie.Need-enum-told
 enum-told c = search needs
@@ -53,10 +47,8 @@ load-data-spec =
     read-front-requires
     enum-known-n
     array-share-prefix-text
-    slice-aggregate-read-data
-    read-data-requires
-    file-told-requires
-    is-accepted-requires
+    slice-aggregate-fill-data
+    fill-data-requires
     same-length
     returns
     enum-told

@@ -20,23 +20,17 @@ enum-known-n c = search needs
 array-share-prefix-text : tie.Need-array-share-prefix-text
 array-share-prefix-text c = let got = rw (c .before .n .given .1) at (c .before .before .before .before .read-front .ensures) in got .0
 
-slice-aggregate-read-disk : tie.Need-slice-aggregate-read-disk
-slice-aggregate-read-disk c = let got = rw (c .before .before .n .given .1) at (c .before .before .before .before .before .read-front .ensures) in got .1
+slice-aggregate-fill-disk : tie.Need-slice-aggregate-fill-disk
+slice-aggregate-fill-disk c = let got = rw (c .before .before .n .given .1) at (c .before .before .before .before .before .read-front .ensures) in got .1
 
-read-disk-requires : tie.Need-read-disk-requires
-read-disk-requires c κs = search needs
-
-file-told-requires : tie.Need-file-told-requires
-file-told-requires c κs = search needs
-
-is-accepted-requires : tie.Need-is-accepted-requires
-is-accepted-requires c κs = search needs
+fill-disk-requires : tie.Need-fill-disk-requires
+fill-disk-requires c κs = search needs
 
 same-length : tie.Need-same-length
 same-length c = search needs
 
 returns : tie.Need-returns
-returns c = loaded (c .before .before .before .before .read-disk .ensures) _ (c .before .file-told .ensures) _ (c .is-accepted .ensures)
+returns c = loaded (c .before .before .fill-disk .ensures)
 
 enum-told : tie.Need-enum-told
 enum-told c = search needs
@@ -53,10 +47,8 @@ load-disk-spec =
     read-front-requires
     enum-known-n
     array-share-prefix-text
-    slice-aggregate-read-disk
-    read-disk-requires
-    file-told-requires
-    is-accepted-requires
+    slice-aggregate-fill-disk
+    fill-disk-requires
     same-length
     returns
     enum-told

@@ -20,23 +20,17 @@ enum-known-n c = search needs
 array-share-prefix-text : tie.Need-array-share-prefix-text
 array-share-prefix-text c = let got = rw (c .before .n .given .1) at (c .before .before .before .before .read-front .ensures) in got .0
 
-slice-aggregate-read-frame : tie.Need-slice-aggregate-read-frame
-slice-aggregate-read-frame c = let got = rw (c .before .before .n .given .1) at (c .before .before .before .before .before .read-front .ensures) in got .1
+slice-aggregate-fill-frame : tie.Need-slice-aggregate-fill-frame
+slice-aggregate-fill-frame c = let got = rw (c .before .before .n .given .1) at (c .before .before .before .before .before .read-front .ensures) in got .1
 
-read-frame-requires : tie.Need-read-frame-requires
-read-frame-requires c κs = search needs
-
-file-told-requires : tie.Need-file-told-requires
-file-told-requires c κs = search needs
-
-is-accepted-requires : tie.Need-is-accepted-requires
-is-accepted-requires c κs = search needs
+fill-frame-requires : tie.Need-fill-frame-requires
+fill-frame-requires c κs = search needs
 
 same-length : tie.Need-same-length
 same-length c = search needs
 
 returns : tie.Need-returns
-returns c = loaded (c .before .before .before .before .read-frame .ensures) _ (c .before .file-told .ensures) _ (c .is-accepted .ensures)
+returns c = loaded (c .before .before .fill-frame .ensures)
 
 enum-told : tie.Need-enum-told
 enum-told c = search needs
@@ -53,10 +47,8 @@ load-frame-spec =
     read-front-requires
     enum-known-n
     array-share-prefix-text
-    slice-aggregate-read-frame
-    read-frame-requires
-    file-told-requires
-    is-accepted-requires
+    slice-aggregate-fill-frame
+    fill-frame-requires
     same-length
     returns
     enum-told

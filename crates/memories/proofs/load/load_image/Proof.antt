@@ -20,23 +20,17 @@ enum-known-n c = search needs
 array-share-prefix-text : tie.Need-array-share-prefix-text
 array-share-prefix-text c = let got = rw (c .before .n .given .1) at (c .before .before .before .before .read-front .ensures) in got .0
 
-slice-aggregate-read-image : tie.Need-slice-aggregate-read-image
-slice-aggregate-read-image c = let got = rw (c .before .before .n .given .1) at (c .before .before .before .before .before .read-front .ensures) in got .1
+slice-aggregate-fill-image : tie.Need-slice-aggregate-fill-image
+slice-aggregate-fill-image c = let got = rw (c .before .before .n .given .1) at (c .before .before .before .before .before .read-front .ensures) in got .1
 
-read-image-requires : tie.Need-read-image-requires
-read-image-requires c κs = search needs
-
-file-told-requires : tie.Need-file-told-requires
-file-told-requires c κs = search needs
-
-is-accepted-requires : tie.Need-is-accepted-requires
-is-accepted-requires c κs = search needs
+fill-image-requires : tie.Need-fill-image-requires
+fill-image-requires c κs = search needs
 
 same-length : tie.Need-same-length
 same-length c = search needs
 
 returns : tie.Need-returns
-returns c = loaded (c .before .before .before .before .read-image .ensures) _ (c .before .file-told .ensures) _ (c .is-accepted .ensures)
+returns c = loaded (c .before .before .fill-image .ensures)
 
 enum-told : tie.Need-enum-told
 enum-told c = search needs
@@ -53,10 +47,8 @@ load-image-spec =
     read-front-requires
     enum-known-n
     array-share-prefix-text
-    slice-aggregate-read-image
-    read-image-requires
-    file-told-requires
-    is-accepted-requires
+    slice-aggregate-fill-image
+    fill-image-requires
     same-length
     returns
     enum-told

@@ -1,6 +1,6 @@
 -- `memories::records::load_record` meets its contract.
 use borrow.Author.Needs.{needs}
-use Rattle.memories.proofs.RecordLaws.{fresh-read}
+use Rattle.memories.proofs.RecordLaws.{sound-read, fresh-read}
 use Rattle.memories.proofs.records.load_record.Statement.{statement}
 use Rattle.memories.proofs.records.load_record.Tie as tie
 
@@ -23,7 +23,7 @@ record-of-requires : tie.Need-record-of-requires
 record-of-requires c κs = search needs
 
 returns : tie.Need-returns
-returns c = search needs
+returns c = sound-read _ _ (c .record-of .ensures)
 
 enum-told : tie.Need-enum-told
 enum-told c = search needs

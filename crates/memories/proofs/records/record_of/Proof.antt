@@ -1,7 +1,7 @@
 -- `memories::records::record_of` meets its contract.
 use mathlib.Core.Path.{sym, _∙_}
 use borrow.Author.Needs.{needs}
-use Rattle.memories.proofs.RecordLaws.{record-read, fresh-read}
+use Rattle.memories.proofs.RecordLaws.{record-read, record-refused}
 use Rattle.memories.proofs.records.record_of.Statement.{statement}
 use Rattle.memories.proofs.records.record_of.Tie as tie
 
@@ -18,10 +18,10 @@ fresh-requires : tie.Need-fresh-requires
 fresh-requires c κs = search needs
 
 returns : tie.Need-returns
-returns c = fresh-read _ (c .fresh .ensures)
+returns c = record-refused (c .before .before .before .before .before .before .args .bytes .now) (c .before .before .before .before .load .result .answer) (c .before .before .before .before .load .ensures .0) _ (c .fresh .ensures) (λ e. c .before .before .if1 .taken (c .before .before .before .number-of .ensures ∙ e))
 
 returns-2 : tie.Need-returns-2
-returns-2 c = record-read _ (c .before .before .before .before .before .args .bytes .now) (c .before .before .before .load .result .answer) (c .before .before .before .load .ensures) (sym (c .before .before .number-of .ensures) ∙ c .before .if1 .left)
+returns-2 c = record-read (c .before .before .before .before .before .args .bytes .now) (c .before .before .before .load .result .answer) (c .before .before .before .load .ensures .0) _ (c .before .before .before .load .ensures .1) (sym (c .before .before .number-of .ensures) ∙ c .before .if1 .left)
 
 pub record-of-spec : {M : Type 1} → statement M
 record-of-spec =

@@ -1,0 +1,25 @@
+-- `memories::load::fill_data` meets its contract.
+use borrow.Author.Needs.{needs}
+use Rattle.memories.proofs.LoadLaws.{filled}
+use Rattle.memories.proofs.load.fill_data.Statement.{statement}
+use Rattle.memories.proofs.load.fill_data.Tie as tie
+
+read-data-requires : tie.Need-read-data-requires
+read-data-requires c κs = search needs
+
+file-told-requires : tie.Need-file-told-requires
+file-told-requires c κs = search needs
+
+is-accepted-requires : tie.Need-is-accepted-requires
+is-accepted-requires c κs = search needs
+
+same-length : tie.Need-same-length
+same-length c = search needs
+
+returns : tie.Need-returns
+returns c = filled (c .before .before .before .before .read-data .ensures) _ (c .before .file-told .ensures) (c .is-accepted .ensures)
+
+pub fill-data-spec : {M : Type 1} → statement M
+fill-data-spec =
+    tie.close
+    (tie.spec read-data-requires file-told-requires is-accepted-requires same-length returns)

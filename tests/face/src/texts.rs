@@ -157,6 +157,8 @@ pub fn record(r: &mut Random) -> [u64; 38] {
     n[3] = match r.below(8) {
         0 => (1 << 40) - 1 - r.below(6),
         1 => r.next() >> 24,
+        // Just below a number with one digit more.
+        2 => 10u64.pow(1 + r.below(12) as u32) - r.below(6),
         _ => r.below(3000),
     };
     for i in 5..18 {

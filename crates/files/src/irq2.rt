@@ -5,7 +5,7 @@ use text::Numeral;
 use text::digits::digit_values;
 use text::digits::read_digits;
 use text::digits::value_of;
-use text::lines::line_end;
+use text::lines::short_line_end;
 ghost use mathlib.Core.Path.{_≡_};
 ghost use lib.ListN.{length};
 ghost use Rattle.text.specs.Numerals.{DigitValues};
@@ -42,7 +42,7 @@ fn check_cycles(text: &[u8], room: usize, values: &[u8; 256]) -> CyclesRead
         if room <= i {
             return CyclesRead::NoWord(i + 1);
         }
-        let end = line_end(text, at);
+        let end = short_line_end(text, at);
         let Numeral::Value(cycle) = line_cycle(&text[at..end], values) else {
             return CyclesRead::BadCycle(i + 1);
         };
@@ -84,7 +84,7 @@ fn fill_cycles(text: &[u8], cycles: &mut [u64], values: &[u8; 256])
     let mut at = 0;
     let mut i = 0;
     while at < text.len() {
-        let end = line_end(text, at);
+        let end = short_line_end(text, at);
         cycles[i] = value_of(&text[at..end], 10, values);
         at = end + 1;
         i += 1;

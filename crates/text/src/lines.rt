@@ -27,6 +27,14 @@ pub fn line_end(s: &[u8], from: usize) -> usize
     first_lf(s, after_blocks(s, at), s.len())
 }
 
+// The same where lines are short: all bytes are looked at one by one.
+pub fn short_line_end(s: &[u8], from: usize) -> usize
+    requires { ⌜ from ≤ length (now s) ⌝ }
+    ensures { λ r. ⌜ (r ≡ from + length (firstLine (drop from (now (s .entry))))) × (r ≤ length (now (s .entry))) ⌝ }
+{
+    first_lf(s, from, s.len())
+}
+
 // The place up to which bytes are looked at one by one, in a text of so many bytes.
 fn near_end(len: usize, from: usize) -> usize
     requires { ⌜ from ≤ len ⌝ }

@@ -30,7 +30,7 @@ abbrev μ-loop : tie.MeasureT-loop
 below : (c : tie.Else2 Inv-loop μ-loop) → c .before .before .cycle .given .0 .0 < 2 ^ 40 - 1
 below c =
     let l = c .before .before .before .before .before .before .before .before .before .loop in
-    let line = take (c .before .before .before .before .before .before .line-end .result - l .at) (drop (l .at) (c .before .before .before .before .before .before .before .before .before .before .before .args .text .now)) in
+    let line = take (c .before .before .before .before .before .before .short-line-end .result - l .at) (drop (l .at) (c .before .before .before .before .before .before .before .before .before .before .before .args .text .now)) in
     cycle-below line _ (sym (c .before .before .before .before .line-cycle .ensures) ∙ c .before .before .cycle .given .1)
 
 loop-holds : tie.Need-loop-holds Inv-loop μ-loop
@@ -46,8 +46,8 @@ returns c =
     let a = c .before .before .before .before .args in
     cycle-full (a .room) (a .text .now) (l .at) (l .i) _ (c .before .loop-test .taken) refl _ (c .if1 .taken) ∙ l .inv .0
 
-line-end-requires : tie.Need-line-end-requires Inv-loop μ-loop
-line-end-requires c κs = omega arith
+short-line-end-requires : tie.Need-short-line-end-requires Inv-loop μ-loop
+short-line-end-requires c κs = omega arith
 
 sub-line-cycle : tie.Need-sub-line-cycle Inv-loop μ-loop
 sub-line-cycle c = omega arith
@@ -74,7 +74,7 @@ returns-2 : tie.Need-returns-2 Inv-loop μ-loop
 returns-2 c =
     let l = c .before .before .before .before .before .before .before .loop in
     let a = c .before .before .before .before .before .before .before .before .before .args in
-    let e = c .before .before .before .before .line-end in
+    let e = c .before .before .before .before .short-line-end in
     let line = take (e .result - l .at) (drop (l .at) (a .text .now)) in
     cycle-bad (a .room) (a .text .now) (l .at) (l .i) (e .result) (c .before .before .before .before .before .before .loop-test .taken) (e .ensures .0) _ (c .before .before .before .before .before .if1 .left)
     (number-no (isCycle line) (value 10 line) (sym (c .before .before .line-cycle .ensures) ∙ c .enum-told .given .1)) ∙ l .inv .0
@@ -86,7 +86,7 @@ returns-3 : tie.Need-returns-3 Inv-loop μ-loop
 returns-3 c =
     let l = c .before .before .before .before .before .before .before .before .before .loop in
     let a = c .before .before .before .before .before .before .before .before .before .before .before .args in
-    let e = c .before .before .before .before .before .before .line-end in
+    let e = c .before .before .before .before .before .before .short-line-end in
     let line = take (e .result - l .at) (drop (l .at) (a .text .now)) in
     let told = sym (c .before .before .before .before .line-cycle .ensures) ∙ c .before .before .cycle .given .1 in
     let is = number-value (isCycle line) (value 10 line) _ told in
@@ -109,7 +109,7 @@ loop-again : tie.Need-loop-again Inv-loop μ-loop
 loop-again c =
     let l = c .before .before .before .before .before .before .before .before .before .loop in
     let a = c .before .before .before .before .before .before .before .before .before .before .before .args in
-    let e = c .before .before .before .before .before .before .line-end in
+    let e = c .before .before .before .before .before .before .short-line-end in
     let inside = c .before .before .before .before .before .before .before .before .loop-test .taken in
     let line = take (e .result - l .at) (drop (l .at) (a .text .now)) in
     let told = sym (c .before .before .before .before .line-cycle .ensures) ∙ c .before .before .cycle .given .1 in
@@ -142,7 +142,7 @@ check-cycles-spec =
     loop-holds
     add-t11
     returns
-    line-end-requires
+    short-line-end-requires
     sub-line-cycle
     part-line-cycle-start
     part-line-cycle-end

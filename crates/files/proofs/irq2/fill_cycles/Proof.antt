@@ -28,15 +28,15 @@ fill-room : (c : tie.After-value-of Inv-loop μ-loop) → c .before .before .bef
 fill-room c =
     let l = c .before .before .before .before .loop in
     let a = c .before .before .before .before .before .before .before .args in
-    let e = c .before .before .line-end in
+    let e = c .before .before .short-line-end in
     cycle-room (length (a .cycles .now)) (a .text .now) (l .at) (l .i) (e .result) (length (lines (a .text .now))) (c .before .before .before .loop-test .taken) (e .ensures .0) (l .inv .1)
 
 loop-holds : tie.Need-loop-holds Inv-loop μ-loop
 unfolding irq2Told
 loop-holds c = (refl, c .before .before .pre .0, refl, omega arith)
 
-line-end-requires : tie.Need-line-end-requires Inv-loop μ-loop
-line-end-requires c κs = omega arith
+short-line-end-requires : tie.Need-short-line-end-requires Inv-loop μ-loop
+short-line-end-requires c κs = omega arith
 
 sub-value-of : tie.Need-sub-value-of Inv-loop μ-loop
 sub-value-of c = omega arith
@@ -51,7 +51,7 @@ value-of-requires : tie.Need-value-of-requires Inv-loop μ-loop
 value-of-requires c κs =
     let l = c .before .before .before .loop in
     let a = c .before .before .before .before .before .before .args in
-    let e = c .before .line-end in
+    let e = c .before .short-line-end in
     let form = cycle-form (length (a .cycles .now)) (a .text .now) (l .at) (l .i) (e .result) (length (lines (a .text .now))) (c .before .before .loop-test .taken) (e .ensures .0) (l .inv .1) in
     (form .0, (form .1, c .before .before .before .before .before .before .pre .1))
 
@@ -74,7 +74,7 @@ loop-again : tie.Need-loop-again Inv-loop μ-loop
 loop-again c =
     let l = c .before .before .before .before .loop in
     let a = c .before .before .before .before .before .before .before .args in
-    let e = c .before .before .line-end in
+    let e = c .before .before .short-line-end in
     let inside = c .before .before .before .loop-test .taken in
     let n = length (lines (a .text .now)) in (
       cycle-turn (length (a .cycles .now)) (a .text .now) (l .at) (l .i) (e .result) n inside (e .ensures .0) (l .inv .1) (l .cycles) _ (c .value-of .ensures) ∙ l .inv .0,
@@ -98,7 +98,7 @@ fill-cycles-spec =
     Inv-loop
     μ-loop
     loop-holds
-    line-end-requires
+    short-line-end-requires
     sub-value-of
     part-value-of-start
     part-value-of-end

@@ -19,7 +19,7 @@ fn no(number: u32) -> Option<Refusal> {
 }
 
 #[test]
-fn g1_and_r2_questions_of_a_run() {
+fn g1_r2_and_r5_questions_of_a_run_and_what_a_refusal_counts() {
     let unsound = {
         let mut record = Record::fresh();
         record.status = 6;

@@ -1,8 +1,8 @@
 #!/usr/bin/env python3
 """Memory files, written a second time from document 01's sentences alone.
 
-Compares what this file expects with crates/files_check/stdout and crates/sector/stdout, the outputs that the gate holds
-the two programs to. The texts that are tried are read from the program's source; what is expected of them is not.
+Compares what this file expects with crates/check_files/stdout, the output that the gate holds
+the program to. The texts that are tried are read from the program's source; what is expected of them is not.
 
     python3 tests/memory_files.py
 """
@@ -12,7 +12,7 @@ import sys
 from pathlib import Path
 
 CRATES = Path(__file__).resolve().parent.parent / "crates"
-SOURCE = CRATES / "files_check" / "src"
+SOURCE = CRATES / "check_files" / "src"
 DONE = (0, 0, 0)
 WRONG_LENGTH = (1, 0, 0)
 
@@ -63,7 +63,7 @@ def write_part(first, sectors, room):
 
 
 def tried(module, function):
-    """The arguments of each try_.. call in a function of files_check."""
+    """The arguments of each try_.. call in a function of check_files."""
     body = (SOURCE / module).read_text().split("pub fn " + function, 1)[1].split("\n}", 1)[0]
     return [ast.literal_eval("(" + call + ")") for call in re.findall(r"try_\w+\((.*)\);", body)]
 
@@ -109,24 +109,20 @@ def length_lines():
     yield shown(b"F13 no whole sector", WRONG_LENGTH)
 
 
-def files_check():
+def check_files():
     expected = [sector_line(*case) for name in ("refused", "accepted") for case in tried("sector.rt", name)]
     expected += [changed_line(*case) for case in tried("sector.rt", "past_the_end")]
     expected += [cycles_line(*case) for name in ("accepted", "refused") for case in tried("cycles.rt", name)]
     expected += [part_line(*case) for case in tried("written.rt", "disk")]
     expected += length_lines()
-    return "".join(line + "\n" for line in expected).encode()
-
-
-def sector():
-    _, memory = read_words((CRATES / "sector" / "stdin").read_bytes(), 128, 8)
-    return write_words(memory, 8, 1152)[1]
+    _, memory = read_words((CRATES / "check_files" / "stdin").read_bytes(), 128, 8)
+    return "".join(line + "\n" for line in expected).encode() + write_words(memory, 8, 1152)[1]
 
 
 def main():
-    differing = [program.__name__ for program in (files_check, sector) if program() != (CRATES / program.__name__ / "stdout").read_bytes()]
-    print("differ: " + ", ".join(differing) if differing else "both outputs are as expected")
-    return 1 if differing else 0
+    same = check_files() == (CRATES / "check_files" / "stdout").read_bytes()
+    print("the output is as expected" if same else "the output differs")
+    return 0 if same else 1
 
 
 sys.exit(main())

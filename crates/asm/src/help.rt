@@ -9,9 +9,9 @@ ghost use Rattle.io.specs.Counts.{Counts};
 // Prints what the program does and the forms of lines that it reads.
 pub fn print_help() {
     let mut text = [0u8; LINE];
-    let mut at = append_files(&mut text, 0);
-    at = append_lines(&mut text, at);
-    at = append_parts(&mut text, at);
+    let mut at = put_files(&mut text, 0);
+    at = put_lines(&mut text, at);
+    at = put_parts(&mut text, at);
     at = append(
         &mut text,
         at,
@@ -21,7 +21,7 @@ pub fn print_help() {
 }
 
 // Lays what the program does and its files at a place of the text and returns the place after it.
-fn append_files(text: &mut [u8], at: usize) -> usize
+fn put_files(text: &mut [u8], at: usize) -> usize
     requires { ⌜ at ≤ length (now text) ⌝ }
     ensures { λ r. ⌜ Counts r (now (text .exit)) ⌝ }
 {
@@ -53,7 +53,7 @@ fn append_files(text: &mut [u8], at: usize) -> usize
 }
 
 // Lays one of each kind of line in the same way.
-fn append_lines(text: &mut [u8], at: usize) -> usize
+fn put_lines(text: &mut [u8], at: usize) -> usize
     requires { ⌜ at ≤ length (now text) ⌝ }
     ensures { λ r. ⌜ Counts r (now (text .exit)) ⌝ }
 {
@@ -86,7 +86,7 @@ fn append_lines(text: &mut [u8], at: usize) -> usize
 }
 
 // Lays what the parts of a line are in the same way.
-fn append_parts(text: &mut [u8], at: usize) -> usize
+fn put_parts(text: &mut [u8], at: usize) -> usize
     requires { ⌜ at ≤ length (now text) ⌝ }
     ensures { λ r. ⌜ Counts r (now (text .exit)) ⌝ }
 {

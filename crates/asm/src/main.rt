@@ -4,10 +4,10 @@ mod help;
 use crate::help::print_help;
 use commands::assemble_file;
 use console::are_names;
-use console::hold_standard;
+use console::open_missing_standard_streams;
 
 fn main() {
-    hold_standard();
+    open_missing_standard_streams();
     if os::arg_count() != 4 {
         print_help();
         return;

@@ -1,39 +1,41 @@
 -- The second pass over the lines of a text. Assumes nothing.
-use Prim.Native.Nat.{ℕ, suc, _+_, _-_, _*_, _^_, _≤_, _<_}
+use Prim.Native.Nat.{ℕ, suc, _+_, _-_, _^_, _≤_, _<_}
 use mathlib.Core.Path.{_≡_, refl, sym, _∙_, ap}
-use mathlib.Core.Bool.{Bool, true, false, cond, not, _&&_, _||_, false≢true}
+use mathlib.Core.Bool.{Bool, true, false, cond, not, _||_}
 use mathlib.Core.List.{List, [], _∷_, _++_, append-nil, append-assoc}
 use native.Mathlib.Omega.{arith}
-use native.Mathlib.Numerals.{add-one}
 use lib.Dec.{leb, ltb}
-use lib.ListN.{length, getD, set, take, drop, replicate, length-append, length-replicate, drop-of-length-le}
+use lib.ListN.{length, set, take, drop, replicate, length-append, length-replicate, drop-of-length-le}
 use lib.Seq.{take-at, set-at, append-snoc}
 use borrow.Author.Tests.{leb-true, ltb-true, not-true}
-use Rattle.text.specs.Questions.{Question, Told, accepted, refused, firstNo, firstBad}
+use Rattle.text.specs.Questions.{accepted, refused, firstNo, firstBad}
 use Rattle.text.specs.Lines.{lines, firstLine}
 use Rattle.text.specs.Ranges.{Below}
 use Rattle.text.proofs.Truth.{and-left, and-right}
-use Rattle.text.proofs.QuestionLaws.{first-yes}
 use Rattle.text.proofs.LineLaws.{lines-at}
 use Rattle.text.proofs.RangeLaws.{below-zeros, holds-after}
 use Rattle.files.specs.Sizes.{imageWords, dataWords}
-use Rattle.source.specs.Bytes.{areRightBytes}
 use Rattle.source.specs.Numbers.{number}
 use Rattle.source.specs.Lookup.{isAmong}
 use Rattle.symbols.proofs.NameLaws.{length-names}
 use Rattle.symbols.proofs.DistinctLaws.{Distinct, distinct-none, distinct-more}
 use Rattle.lines.specs.declared.Form.{Form}
-use Rattle.lines.specs.Line.{formOf, isRight, hasLabel, hasCode, hasWord, part, labelOf, operand}
+use Rattle.lines.specs.Line.{formOf, isRight, hasLabel, hasCode, hasWord, part, labelOf}
 use Rattle.lines.specs.Ranges.{modulo}
-use Rattle.lines.specs.Asked.{isKnown, areInRange, isWordInRange}
-use Rattle.assembler.specs.declared.Statement.{Statement}
-use Rattle.assembler.specs.Text.{codeCount, labels, areRight}
-use Rattle.assembler.specs.Questions.{when, isUsable, lastAddress, mostLabels, lineQuestions, textTold}
-use Rattle.assembler.specs.Memories.{encoded, codeOf, assembledImage, stored, assembledData}
-use Rattle.assembler.specs.Passes.{LabelTable, Usual, StatementRead, After, Translated}
-use Rattle.assembler.proofs.TextLaws.{labels-append, code-append, words-append, stored-append, right-append, length-words}
-use Rattle.assembler.proofs.AskLaws.{Numbered, none-refused, one-refused}
-use Rattle.assembler.proofs.LabelLaws.{size-kept}
+use Rattle.statements.specs.declared.Statement.{Statement}
+use Rattle.labels.specs.Text.{codeCount, labels, areRight}
+use Rattle.statements.specs.Questions.{askedIf, lastAddress, lineQuestions}
+use Rattle.labels.specs.Limits.{mostLabels}
+use Rattle.assembler.specs.Questions.{textOutcome}
+use Rattle.statements.specs.Encoding.{encoded}
+use Rattle.assembler.specs.Memories.{codeOf, assembledImage, stored, assembledData}
+use Rattle.labels.specs.Tables.{LabelTable}
+use Rattle.statements.specs.Reading.{Usual, StatementRead, After}
+use Rattle.assembler.specs.Passes.{Translated}
+use Rattle.labels.proofs.TextLaws.{labels-append, code-append, right-append}
+use Rattle.assembler.proofs.MemoryLaws.{words-append, stored-append, length-words}
+use Rattle.statements.proofs.QuestionLaws.{line-passes, line-fails, line-number, GoodLine, passed}
+use Rattle.labels.proofs.FirstPassLaws.{size-kept}
 
 -- ---- small facts
 
@@ -42,64 +44,6 @@ next-word : (code : List ℕ) (n x : ℕ) → length code ≡ n → n < imageWor
 next-word code n x e h =
     let one : imageWords - n ≡ suc (imageWords - (n + 1)) = omega arith in
     rw one (set-at code 0 (replicate (imageWords - (n + 1)) 0) x n e ∙ sym (append-snoc code x (replicate (imageWords - (n + 1)) 0)))
-
--- ---- the questions of a line
-
-all-numbered : (all before : List (List ℕ)) (line : List ℕ) → Numbered (lineQuestions all before line)
-unfolding lineQuestions Numbered
-all-numbered all before line = (omega arith, (omega arith, (omega arith, (omega arith, (omega arith, (omega arith, (omega arith, tt)))))))
-
--- The questions have numbers from 2 to 8.
-InRange : List Question → Type 0
-InRange [] = Unit {0}
-InRange (q ∷ qs) = ((2 ≤ q .0) × (q .0 ≤ 8)) × InRange qs
-
-number-in : (qs : List Question) → InRange qs → (firstNo qs 0 (accepted 0) .number ≡ 0 → ⊥) → (2 ≤ firstNo qs 0 (accepted 0) .number) × (firstNo qs 0 (accepted 0) .number ≤ 8)
-unfolding InRange
-number-in [] r n = absurd (n refl)
-number-in (q ∷ qs) r n = go (q .1) (number-in qs (r .1)) n
-  where
-    go : (b : Bool) → ((firstNo qs 0 (accepted 0) .number ≡ 0 → ⊥) → (2 ≤ firstNo qs 0 (accepted 0) .number) × (firstNo qs 0 (accepted 0) .number ≤ 8))
-        → (cond b (firstNo qs 0 (accepted 0)) (refused (q .0) 0) .number ≡ 0 → ⊥)
-        → (2 ≤ cond b (firstNo qs 0 (accepted 0)) (refused (q .0) 0) .number) × (cond b (firstNo qs 0 (accepted 0)) (refused (q .0) 0) .number ≤ 8)
-    go true more n = more n
-    go false more n = r .0
-
-line-numbers : (all before : List (List ℕ)) (line : List ℕ) → InRange (lineQuestions all before line)
-unfolding lineQuestions InRange
-line-numbers all before line =
-    ((omega arith, omega arith), ((omega arith, omega arith), ((omega arith, omega arith), ((omega arith, omega arith), ((omega arith, omega arith), ((omega arith, omega arith), ((omega arith, omega arith), tt)))))))
-
--- The answers to those questions whose yes the memories need.
-record Passed (all before : List (List ℕ)) (line : List ℕ) (f : Form) : Type 0 where
-  right : isRight f ≡ true
-  known : when (hasCode f) (isKnown f line) ≡ true
-  fresh : when (hasLabel f) (not (isAmong (labels before) (labelOf line))) ≡ true
-  defined : when (hasCode f) (isUsable (labels all) (operand 4 f line) && isUsable (labels all) (operand 5 f line)) ≡ true
-  placed : (when (hasCode f || hasLabel f) (leb (codeCount before) lastAddress) && when (hasLabel f) (ltb (length (labels before)) mostLabels)) ≡ true
-
-seven : (a b d e g h k : Bool) → firstNo ((2, a) ∷ (3, b) ∷ (4, d) ∷ (5, e) ∷ (6, g) ∷ (7, h) ∷ (8, k) ∷ []) 0 (accepted 0) .number ≡ 0 → (b ≡ true) × (d ≡ true) × (g ≡ true) × (h ≡ true) × (k ≡ true)
-seven a b d e g h k q =
-    let q2 = first-yes 2 0 a (firstNo ((3, b) ∷ (4, d) ∷ (5, e) ∷ (6, g) ∷ (7, h) ∷ (8, k) ∷ []) 0 (accepted 0)) (omega arith) q .1 in
-    let q3 = first-yes 3 0 b (firstNo ((4, d) ∷ (5, e) ∷ (6, g) ∷ (7, h) ∷ (8, k) ∷ []) 0 (accepted 0)) (omega arith) q2 in
-    let q4 = first-yes 4 0 d (firstNo ((5, e) ∷ (6, g) ∷ (7, h) ∷ (8, k) ∷ []) 0 (accepted 0)) (omega arith) (q3 .1) in
-    let q5 = first-yes 5 0 e (firstNo ((6, g) ∷ (7, h) ∷ (8, k) ∷ []) 0 (accepted 0)) (omega arith) (q4 .1) .1 in
-    let q6 = first-yes 6 0 g (firstNo ((7, h) ∷ (8, k) ∷ []) 0 (accepted 0)) (omega arith) q5 in
-    let q7 = first-yes 7 0 h (firstNo ((8, k) ∷ []) 0 (accepted 0)) (omega arith) (q6 .1) in
-    let q8 = first-yes 8 0 k (accepted 0) (omega arith) (q7 .1) in
-    (q3 .0, q4 .0, q6 .0, q7 .0, q8 .0)
-
-passed : (all before : List (List ℕ)) (line : List ℕ) (f : Form) → f ≡ formOf line → firstNo (lineQuestions all before line) 0 (accepted 0) .number ≡ 0 → Passed all before line f
-unfolding lineQuestions
-passed all before line f form q =
-    let g = formOf line in
-    let r =
-    seven (areRightBytes line) (isRight g) (when (hasCode g) (isKnown g line)) (when (hasCode g) (areInRange g line) && when (hasWord g) (isWordInRange line))
-    (when (hasLabel g) (not (isAmong (labels before) (labelOf line))))
-    (when (hasCode g) (isUsable (labels all) (operand 4 g line) && isUsable (labels all) (operand 5 g line)))
-    (when (hasCode g || hasLabel g) (leb (codeCount before) lastAddress) && when (hasLabel g) (ltb (length (labels before)) mostLabels))
-    q in
-    rw form (record { right = r .0; known = r .1; fresh = r .2; defined = r .3; placed = r .4 })
 
 -- ---- the second pass
 
@@ -111,7 +55,7 @@ pub record Translating (source words memory : List ℕ) (p i n m : ℕ) : Type 0
   pub code : codeCount done ≡ n
   pub count : length (labels done) ≡ m
   pub right : areRight done ≡ true
-  pub told : textTold source ≡ firstBad (λ k line. lineQuestions (lines source) (take k (lines source)) line) i (lines (drop p source)) (accepted 0)
+  pub outcome : textOutcome source ≡ firstBad (λ k line. lineQuestions (lines source) (take k (lines source)) line) i (lines (drop p source)) (accepted 0)
   pub writes : Usual (lines source) → words ≡ codeOf (lines source) done ++ replicate (imageWords - n) 0
   pub stores : memory ≡ stored (replicate dataWords 0) done
   pub fits : Below (2 ^ 48) words
@@ -122,7 +66,7 @@ pub record Translating (source words memory : List ℕ) (p i n m : ℕ) : Type 0
   pub distinct : Distinct (labels done)
 
 pub none-translated : (source words memory : List ℕ) → words ≡ replicate imageWords 0 → memory ≡ replicate dataWords 0 → Translating source words memory 0 0 0 0
-unfolding codeCount labels areRight codeOf stored textTold
+unfolding codeCount labels areRight codeOf stored textOutcome
 none-translated source words memory w d =
     record {
       done = [];
@@ -131,7 +75,7 @@ none-translated source words memory w d =
       code = refl;
       count = refl;
       right = refl;
-      told = refl;
+      outcome = refl;
       writes = λ u. w;
       stores = d;
       fits = rw w (below-zeros (2 ^ 48) (omega arith) imageWords);
@@ -170,7 +114,7 @@ module _ {source words memory : List ℕ} {p i n m : ℕ} (d : Translating sourc
       let usual : Usual (lines source) = rw whole (record { right = d .right; few = rw (d .count) (d .few); distinct = d .distinct }) in
       let size : length (codeOf (lines source) (d .done)) ≡ n = length-words (lines source) (d .done) ∙ d .code in
       record {
-        none = λ q. d .told ∙ rw none;
+        none = λ q. d .outcome ∙ rw none;
         some = λ q. absurd (q refl);
         numbers = λ q. absurd (q refl);
         code = λ q. d .writes usual ∙ ap (λ (k : ℕ). codeOf (lines source) (d .done) ++ replicate (imageWords - k) 0) (sym size) ∙ ap (λ (x : List (List ℕ)). codeOf (lines source) x ++ replicate (imageWords - length (codeOf (lines source) x)) 0) (sym whole);
@@ -190,9 +134,9 @@ module _ {source words memory : List ℕ} {p i n m : ℕ} (d : Translating sourc
     before : take i (lines source) ≡ d .done
     before = ap (take i) (d .split) ∙ take-at (d .done) (lines (drop p source)) i (d .number)
 
-    told-here : textTold source ≡ firstNo (lineQuestions (lines source) (d .done) line) (i + 1) (firstBad (λ k l. lineQuestions (lines source) (take k (lines source)) l) (i + 1) (lines (drop (e + 1) source)) (accepted 0))
+    outcome-here : textOutcome source ≡ firstNo (lineQuestions (lines source) (d .done) line) (i + 1) (firstBad (λ k l. lineQuestions (lines source) (take k (lines source)) l) (i + 1) (lines (drop (e + 1) source)) (accepted 0))
     unfolding firstBad
-    told-here = d .told ∙ rw (here, before)
+    outcome-here = d .outcome ∙ rw (here, before)
 
     module _ (q : ℕ) (asks : q ≡ firstNo (lineQuestions (lines source) (d .done) line) 0 (accepted 0) .number) where
       -- It is refused.
@@ -201,8 +145,8 @@ module _ {source words memory : List ℕ} {p i n m : ℕ} (d : Translating sourc
           let some : firstNo (lineQuestions (lines source) (d .done) line) 0 (accepted 0) .number ≡ 0 → ⊥ = λ x. n0 (asks ∙ x) in
           record {
             none = λ x. absurd (n0 x);
-            some = λ x. told-here ∙ one-refused (lineQuestions (lines source) (d .done) line) (i + 1) _ some ∙ ap (λ (k : ℕ). refused k (i + 1)) (sym asks);
-            numbers = λ x. rw asks (number-in (lineQuestions (lines source) (d .done) line) (line-numbers (lines source) (d .done) line) some);
+            some = λ x. outcome-here ∙ line-fails (lines source) (d .done) line (i + 1) _ some ∙ ap (λ (k : ℕ). refused k (i + 1)) (sym asks);
+            numbers = λ x. rw asks (line-number (lines source) (d .done) line some);
             code = λ x. absurd (n0 x);
             stores = λ x. absurd (n0 x);
             high-bits = d .fits;
@@ -210,7 +154,7 @@ module _ {source words memory : List ℕ} {p i n m : ℕ} (d : Translating sourc
           }
 
       module _ (q0 : q ≡ 0) (f : Form) (form : f ≡ formOf line) (s : Statement) (says : StatementRead (lines source) line f s) where
-        yes-all : Passed (lines source) (d .done) line f
+        yes-all : GoodLine (lines source) (d .done) line f
         yes-all = passed (lines source) (d .done) line f form (sym asks ∙ q0)
 
         abbrev next : List (List ℕ)
@@ -219,7 +163,7 @@ module _ {source words memory : List ℕ} {p i n m : ℕ} (d : Translating sourc
         -- An instruction has a place.
         pub code-placed : hasCode f ≡ true → n < imageWords
         code-placed h =
-            let r = and-left (when (hasCode f || hasLabel f) (leb (codeCount (d .done)) lastAddress)) (when (hasLabel f) (ltb (length (labels (d .done))) mostLabels)) (yes-all .placed) in
+            let r = and-left (askedIf (hasCode f || hasLabel f) (leb (codeCount (d .done)) lastAddress)) (askedIf (hasLabel f) (ltb (length (labels (d .done))) mostLabels)) (yes-all .placed) in
             let less : leb (codeCount (d .done)) lastAddress ≡ true = rw h at r in
             let most = leb-true (codeCount (d .done)) lastAddress less in
             let c = d .code in
@@ -227,7 +171,7 @@ module _ {source words memory : List ℕ} {p i n m : ℕ} (d : Translating sourc
 
         label-placed : hasLabel f ≡ true → m < mostLabels
         label-placed h =
-            let r = and-right (when (hasCode f || hasLabel f) (leb (codeCount (d .done)) lastAddress)) (when (hasLabel f) (ltb (length (labels (d .done))) mostLabels)) (yes-all .placed) in
+            let r = and-right (askedIf (hasCode f || hasLabel f) (leb (codeCount (d .done)) lastAddress)) (askedIf (hasLabel f) (ltb (length (labels (d .done))) mostLabels)) (yes-all .placed) in
             let less : ltb (length (labels (d .done))) mostLabels ≡ true = rw h at r in
             let most = ltb-true (length (labels (d .done))) mostLabels less in
             let c = d .count in
@@ -310,7 +254,7 @@ module _ {source words memory : List ℕ} {p i n m : ℕ} (d : Translating sourc
               code = next-code n′ c;
               count = next-count m′ l;
               right = next-right;
-              told = told-here ∙ none-refused (lineQuestions (lines source) (d .done) line) (i + 1) _ (all-numbered (lines source) (d .done) line) (sym asks ∙ q0);
+              outcome = outcome-here ∙ line-passes (lines source) (d .done) line (i + 1) _ (sym asks ∙ q0);
               writes = next-words words′ w n′ c;
               stores = next-stores memory′ v;
               fits = rw w (below-one (hasCode f));

@@ -5,12 +5,13 @@ use mathlib.Core.Path.{_≡_, refl}
 use mathlib.Core.List.{List, [], _∷_, _++_, map}
 use lib.ListN.{getD, take, drop, replicate}
 use Rattle.text.specs.Bytes.{bytes}
-use Rattle.text.specs.Questions.{Told, accepted, refused, firstNo, firstBad}
+use Rattle.text.specs.declared.Outcome.{Outcome}
+use Rattle.text.specs.Questions.{accepted, refused, firstNo, firstBad}
 use Rattle.text.specs.Lines.{lines, unlines}
 use Rattle.text.specs.Numerals.{digits, allDigits, value}
 use Rattle.isa.specs.Operations.{operationNames}
 use Rattle.isa.specs.Registers.{registerNames}
-use Rattle.source.specs.Bytes.{all, areRightBytes}
+use Rattle.source.specs.Bytes.{areAll, areRightBytes}
 use Rattle.source.specs.Tokens.{tokensFrom}
 use Rattle.source.specs.Numbers.{number}
 use Rattle.text.specs.Same.{same}
@@ -19,22 +20,24 @@ use Rattle.source.specs.Shapes.{fits, matches, firstShape}
 use Rattle.source.specs.Lookup.{isAmong, placeOf}
 use Rattle.lines.specs.Line.{shapes, formOf}
 use Rattle.lines.specs.Asked.{isKnown, areInRange, isWordInRange}
-use Rattle.assembler.specs.Text.{codeCount, labels, linesBefore, valueOf}
-use Rattle.assembler.specs.Questions.{lineQuestions, textTold, assembleTold}
-use Rattle.assembler.specs.Memories.{immediate, encoded, codeOf, assembledImage, stored, assembledData}
+use Rattle.labels.specs.Text.{codeCount, labels, linesBefore, valueOf}
+use Rattle.statements.specs.Questions.{lineQuestions}
+use Rattle.assembler.specs.Questions.{textOutcome, assembleOutcome}
+use Rattle.statements.specs.Encoding.{immediate, encoded}
+use Rattle.assembler.specs.Memories.{codeOf, assembledImage, stored, assembledData}
 
 -- What a text is told, ..
-unfoldable toldOf : List ℕ → Told
-unfolding assembleTold textTold lineQuestions isKnown areInRange isWordInRange firstBad lines formOf shapes firstShape matches fits isName isRegister isDefinition number same tokensFrom areRightBytes all allDigits value codeCount labels isAmong operationNames registerNames
-toldOf source = assembleTold source 4096 4096
+unfoldable outcomeOf : List ℕ → Outcome
+unfolding assembleOutcome textOutcome lineQuestions isKnown areInRange isWordInRange firstBad lines formOf shapes firstShape matches fits isName isRegister isDefinition number same tokensFrom areRightBytes areAll allDigits value codeCount labels isAmong operationNames registerNames
+outcomeOf source = assembleOutcome source 4096 4096
 
-unfoldable told : String → Told
-unfolding toldOf
-told source = toldOf (bytes source)
+unfoldable outcome : String → Outcome
+unfolding outcomeOf
+outcome source = outcomeOf (bytes source)
 
 -- .. and the image and the data memory that it gives.
 unfoldable imageOf : List ℕ → List ℕ
-unfolding assembledImage codeOf encoded immediate valueOf linesBefore codeCount placeOf lines formOf shapes firstShape matches fits isName isRegister isDefinition number same tokensFrom areRightBytes all allDigits value operationNames registerNames
+unfolding assembledImage codeOf encoded immediate valueOf linesBefore codeCount placeOf lines formOf shapes firstShape matches fits isName isRegister isDefinition number same tokensFrom areRightBytes areAll allDigits value operationNames registerNames
 imageOf source = assembledImage source
 
 unfoldable image : String → List ℕ
@@ -42,7 +45,7 @@ unfolding imageOf
 image source = imageOf (bytes source)
 
 unfoldable words : String → List ℕ
-unfolding assembledData stored lines formOf shapes firstShape matches fits isName isRegister isDefinition number same tokensFrom areRightBytes all allDigits value
+unfolding assembledData stored lines formOf shapes firstShape matches fits isName isRegister isDefinition number same tokensFrom areRightBytes areAll allDigits value
 words source = assembledData (bytes source)
 
 -- The word of a text that has one instruction.
@@ -57,8 +60,8 @@ text ls = unlines (map bytes ls)
 -- ---- what a text gives
 
 -- "sub with R8, R1, R2, R2 and 2, 3 encodes as 018122002003"; a label used before it is defined: its value is the count of instructions before it.
-good : told "beq $zero, $zero, $zero, $imm1, L, 0 # go on\nL: sub $t1, $imm1, $imm2, $imm2, 2, 3\n" ≡ accepted 0
-unfolding told
+good : outcome "beq $zero, $zero, $zero, $imm1, L, 0 # go on\nL: sub $t1, $imm1, $imm2, $imm2, 2, 3\n" ≡ accepted 0
+unfolding outcome
 good = refl
 
 encodes : take 3 (image "beq $zero, $zero, $zero, $imm1, L, 0 # go on\nL: sub $t1, $imm1, $imm2, $imm2, 2, 3\n")
@@ -67,8 +70,8 @@ unfolding image
 encodes = refl
 
 -- A20: the empty text is good, and the last LF may be missing.
-no-last-LF : map told ("" ∷ "\n" ∷ "\n\n# c" ∷ ".word 4095 1" ∷ "halt $zero, $zero, $zero, $zero, 0, 0" ∷ []) ≡ replicate 5 (accepted 0)
-unfolding told
+no-last-LF : map outcome ("" ∷ "\n" ∷ "\n\n# c" ∷ ".word 4095 1" ∷ "halt $zero, $zero, $zero, $zero, 0, 0" ∷ []) ≡ replicate 5 (accepted 0)
+unfolding outcome
 no-last-LF = refl
 
 -- A20, A22: "the rest is zero", all 64 bits of a word of the image.
@@ -126,9 +129,9 @@ four-labels =
     ∷ "l:"
     ∷ []
 
-four-labels-told : toldOf (text four-labels) ≡ accepted 0
-unfolding toldOf text unlines four-labels
-four-labels-told = refl
+four-labels-outcome : outcomeOf (text four-labels) ≡ accepted 0
+unfolding outcomeOf text unlines four-labels
+four-labels-outcome = refl
 
 four-labels-words : take 3 (imageOf (text four-labels)) ≡ 0x000000000001 ∷ 0x000000002003 ∷ 0x000000003002 ∷ []
 unfolding imageOf text unlines four-labels
@@ -146,8 +149,8 @@ paper-lines : map (λ (line : String). word (bytes line))
 unfolding word
 paper-lines = refl
 
-paper-t3 : told "# opcode, rd, rs, rt, rm, imm1, imm2\nadd $t3, $t2, $t1, $t0, 0, 0      # $t3 = $t2 + $t1 + $t0\n" ≡ refused 4 2
-unfolding told
+paper-t3 : outcome "# opcode, rd, rs, rt, rm, imm1, imm2\nadd $t3, $t2, $t1, $t0, 0, 0      # $t3 = $t2 + $t1 + $t0\n" ≡ refused 4 2
+unfolding outcome
 paper-t3 = refl
 
 -- Its program with labels: L1 is 3, L2 is 4, L3 is 6 and L4 is 8.
@@ -169,9 +172,9 @@ paper-program =
     ∷ "beq $zero, $zero, $zero, $ra, 0, 0      # return from function in address in $ra"
     ∷ []
 
-paper-program-told : toldOf (text paper-program) ≡ accepted 0
-unfolding toldOf text unlines paper-program
-paper-program-told = refl
+paper-program-outcome : outcomeOf (text paper-program) ≡ accepted 0
+unfolding outcomeOf text unlines paper-program
+paper-program-outcome = refl
 
 paper-program-words : take 10 (imageOf (text paper-program))
     ≡ 0x0A0781003000 ∷ 0x009910001000 ∷ 0x090001004000 ∷ 0x019910001000 ∷ 0x008010006000 ∷ 0x090008000000 ∷ 0x0FF001008000 ∷ 0x150000000000
@@ -188,78 +191,78 @@ paper-data = refl
 -- ---- refusals of a text
 
 -- A21: question 1, before any line is read: a text of 262,144 bytes, and one more; an image and a data memory of other lengths.
-lengths : map (λ n. toldOf (bytes "halt\n" ++ replicate n 35)) (262139 ∷ 262140 ∷ []) ≡ refused 3 1 ∷ refused 1 0 ∷ []
-unfolding toldOf
+lengths : map (λ n. outcomeOf (bytes "halt\n" ++ replicate n 35)) (262139 ∷ 262140 ∷ []) ≡ refused 3 1 ∷ refused 1 0 ∷ []
+unfolding outcomeOf
 lengths = refl
 
-memory-lengths : assembleTold (bytes "halt") 4095 4096 ∷ assembleTold (bytes "halt") 4096 4095 ∷ assembleTold (bytes "halt") 4097 4097 ∷ []
+memory-lengths : assembleOutcome (bytes "halt") 4095 4096 ∷ assembleOutcome (bytes "halt") 4096 4095 ∷ assembleOutcome (bytes "halt") 4097 4097 ∷ []
     ≡ replicate 3 (refused 1 0)
-unfolding assembleTold textTold
+unfolding assembleOutcome textOutcome
 memory-lengths = refl
 
 -- Each question of a line, and the first bad line.
-refusals : map told
+refusals : map outcome
     ("\n\u{b}\n" ∷ "halt\n" ∷ "foo $zero, $zero, $zero, $zero, 0, 0\n" ∷ ".word 4096 0\n" ∷ "L:\n# c\nL:\n" ∷ "add $zero, $zero, $zero, $zero, M, 0\n"
     ∷ "\nhalt\n\u{b}\n" ∷ "L:\nL:\nhalt" ∷ "\n\nhalt" ∷ [])
     ≡ refused 2 2 ∷ refused 3 1 ∷ refused 4 1 ∷ refused 5 1 ∷ refused 6 3 ∷ refused 7 1 ∷ refused 3 2 ∷ refused 6 2 ∷ refused 3 3 ∷ []
-unfolding told
+unfolding outcome
 refusals = refl
 
 -- Their order on a line: 2 before 3, 3 before 4, 4 before 5, 5 before 6, 6 before 7.
-order : map told
+order : map outcome
     ("halt\u{b}\n" ∷ "foo\n" ∷ "foo $zero, $zero, $zero, $zero, 9999, 0\n" ∷ "L:\nL: add $zero, $zero, $zero, $zero, 4096, 0\n"
     ∷ "L:\nL: add $zero, $zero, $zero, $zero, M, 0\n" ∷ [])
     ≡ refused 2 1 ∷ refused 3 1 ∷ refused 4 1 ∷ refused 5 2 ∷ refused 6 2 ∷ []
-unfolding told
+unfolding outcome
 order = refl
 
 -- 2: 500 bytes before the LF or the end, and 501 (A20: the LF is not among them); A6: CR is.
-bytes-of-a-line : map toldOf
+bytes-of-a-line : map outcomeOf
     ((replicate 500 35 ++ bytes "\n") ∷ replicate 500 35 ∷ (replicate 499 35 ++ bytes "\r\n") ∷ (replicate 501 35 ++ bytes "\n") ∷ replicate 501 35
     ∷ (replicate 500 35 ++ bytes "\r\n") ∷ (0xEF ∷ 0xBB ∷ 0xBF ∷ []) ∷ [])
     ≡ accepted 0 ∷ accepted 0 ∷ accepted 0 ∷ refused 2 1 ∷ refused 2 1 ∷ refused 2 1 ∷ refused 2 1 ∷ []
-unfolding toldOf
+unfolding outcomeOf
 bytes-of-a-line = refl
 
 -- 4 and 3 of ops. A10, A15: an unknown one of 50 letters is 4, of 51 letters 3; `ADD` is 4, `9add` and `.WORD` are 3.
-unknown-ops : map (λ (op : List ℕ). toldOf (op ++ bytes " $zero, $zero, $zero, $zero, 0, 0\n"))
+unknown-ops : map (λ (op : List ℕ). outcomeOf (op ++ bytes " $zero, $zero, $zero, $zero, 0, 0\n"))
     (replicate 50 97 ∷ replicate 51 97 ∷ bytes "ADD" ∷ bytes "adds" ∷ bytes "9add" ∷ bytes ".WORD" ∷ [])
     ≡ refused 4 1 ∷ refused 3 1 ∷ refused 4 1 ∷ refused 4 1 ∷ refused 3 1 ∷ refused 3 1 ∷ []
-unfolding toldOf
+unfolding outcomeOf
 unknown-ops = refl
 
 -- 4 of registers, at each place. A1: `$t3`; A11: `$0`, `$15`, `$T0`, `$` with 60 letters; `$` alone is 3. A16: 4 also where a number is out of range.
-unknown-registers : map (λ (s : List ℕ). toldOf (bytes "add " ++ s ++ bytes "\n"))
+unknown-registers : map (λ (s : List ℕ). outcomeOf (bytes "add " ++ s ++ bytes "\n"))
     (bytes "$t3, $zero, $zero, $zero, 0, 0" ∷ bytes "$zero, $0, $zero, $zero, 0, 0" ∷ bytes "$zero, $zero, $15, $zero, 0, 0"
     ∷ bytes "$zero, $zero, $zero, $T0, 0, 0" ∷ (bytes "$" ++ replicate 60 97 ++ bytes ", $zero, $zero, $zero, 0, 0")
     ∷ bytes "$zero, $zero, $zero, $t3, 4096, 0" ∷ bytes "$t3, $zero, $zero, $zero, 0, -2049" ∷ bytes "$, $zero, $zero, $zero, 0, 0" ∷ [])
     ≡ replicate 7 (refused 4 1) ++ (refused 3 1 ∷ [])
-unfolding toldOf
+unfolding outcomeOf
 unknown-registers = refl
 
 -- 5: "Immediates run from -2048 to 4095". A16: 0xFFFFF800 is not -2048. A9: ten digits are 5, eleven 3.
-ranges : map (λ (s : String). toldOf (bytes "add $zero, $zero, $zero, $zero, " ++ bytes s))
+ranges : map (λ (s : String). outcomeOf (bytes "add $zero, $zero, $zero, $zero, " ++ bytes s))
     ("-2048, 4095" ∷ "4095, -2048" ∷ "0xFFF, 0x0" ∷ "-2049, 0" ∷ "0, -2049" ∷ "4096, 0" ∷ "0, 4096" ∷ "0x1000, 0" ∷ "0xFFFFF800, 0" ∷ "9999999999, 0"
     ∷ "99999999999, 0" ∷ [])
     ≡ replicate 3 (accepted 0) ++ replicate 7 (refused 5 1) ++ (refused 3 1 ∷ [])
-unfolding toldOf
+unfolding outcomeOf
 ranges = refl
 
 -- 5: ".word addresses 0 to 4095, data -2^31 to 2^32-1".
-word-ranges : map told
+word-ranges : map outcome
     (".word 4095 4294967295" ∷ ".word 0xFFF 0xFFFFFFFF" ∷ ".word 0 -2147483648" ∷ ".word -0 5" ∷ ".word 4096 0" ∷ ".word 0x1000 0" ∷ ".word -1 0"
     ∷ ".word 0 4294967296" ∷ ".word 0 -2147483649" ∷ [])
     ≡ replicate 4 (accepted 0) ++ replicate 5 (refused 5 1)
-unfolding told
+unfolding outcome
 word-ranges = refl
 
 -- 6: A15, "Names are case-sensitive".
-defined-before : map told ("L:\nl:\n" ∷ "L:\nl:\nL: halt $zero, $zero, $zero, $zero, 0, 0\n" ∷ []) ≡ accepted 0 ∷ refused 6 3 ∷ []
-unfolding told
+defined-before : map outcome ("L:\nl:\n" ∷ "L:\nl:\nL: halt $zero, $zero, $zero, $zero, 0, 0\n" ∷ []) ≡ accepted 0 ∷ refused 6 3 ∷ []
+unfolding outcome
 defined-before = refl
 
 -- 7: A17, a label may be defined on the same line, on a later one, on one that fails 4, 5 or 7; ..
-defined-somewhere : map told
+defined-somewhere : map outcome
     ("L: add $zero, $zero, $zero, $zero, L, 0\n"
     ∷ "add $zero, $zero, $zero, $zero, 0, L\nL:\n"
     ∷ "add $zero, $zero, $zero, $zero, L, 0\nL: foo $zero, $zero, $zero, $zero, 0, 0\n"
@@ -267,28 +270,28 @@ defined-somewhere : map told
     ∷ "add $zero, $zero, $zero, $zero, L, 0\nL: add $zero, $zero, $zero, $zero, M, 0\n"
     ∷ [])
     ≡ accepted 0 ∷ accepted 0 ∷ refused 4 2 ∷ refused 5 2 ∷ refused 7 2 ∷ []
-unfolding told
+unfolding outcome
 defined-somewhere = refl
 
 -- .. not on a line of wrong form or with a bad byte, even in its comment; a label of the other case is another (A15).
-defined-nowhere : map told
+defined-nowhere : map outcome
     ("add $zero, $zero, $zero, $zero, L, 0\nL: 1\n" ∷ "add $zero, $zero, $zero, $zero, L, 0\nL: .word 1 2\n"
     ∷ "add $zero, $zero, $zero, $zero, L, 0\nL: # \u{b}\n" ∷ "add $zero, $zero, $zero, $zero, L, 0\n# L:\n"
     ∷ "L: add $zero, $zero, $zero, $zero, 0, l\n" ∷ [])
     ≡ replicate 5 (refused 7 1)
-unfolding told
+unfolding outcome
 defined-nowhere = refl
 
 -- ---- question 8, asked of one line of a long text
 
 -- What the last line of a text is told, after these lines; ..
-unfoldable asked : (before : List (List ℕ)) → String → Told
-unfolding lineQuestions isKnown areInRange isWordInRange formOf shapes firstShape matches fits isName isRegister isDefinition number same tokensFrom areRightBytes all allDigits value codeCount labels isAmong operationNames registerNames
+unfoldable asked : (before : List (List ℕ)) → String → Outcome
+unfolding lineQuestions isKnown areInRange isWordInRange formOf shapes firstShape matches fits isName isRegister isDefinition number same tokensFrom areRightBytes areAll allDigits value codeCount labels isAmong operationNames registerNames
 asked before line = firstNo (lineQuestions (before ++ (bytes line ∷ [])) before (bytes line)) 0 (accepted 0)
 
 -- .. and the first, before these.
-unfoldable askedFirst : (after : List (List ℕ)) → String → Told
-unfolding lineQuestions isKnown areInRange isWordInRange formOf shapes firstShape matches fits isName isRegister isDefinition number same tokensFrom areRightBytes all allDigits value codeCount labels isAmong operationNames registerNames
+unfoldable askedFirst : (after : List (List ℕ)) → String → Outcome
+unfolding lineQuestions isKnown areInRange isWordInRange formOf shapes firstShape matches fits isName isRegister isDefinition number same tokensFrom areRightBytes areAll allDigits value codeCount labels isAmong operationNames registerNames
 askedFirst after line = firstNo (lineQuestions (bytes line ∷ after) [] (bytes line)) 0 (accepted 0)
 
 -- So many instructions, and so many labels: `L1023:` and so on, down to `L0000:`.

@@ -1,5 +1,4 @@
--- The assembler: the lines of a text, their questions, and what a good text gives.
-pub mod Text
+-- The assembler: the first bad line of a text, and what a good text gives.
 pub mod Questions
 pub mod Memories
 pub mod Answers

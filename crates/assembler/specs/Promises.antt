@@ -6,14 +6,14 @@ use lib.ListN.{length}
 use Rattle.text.specs.Questions.{accepted, unlessRefused}
 use Rattle.text.specs.Ranges.{Below}
 use Rattle.assembler.specs.declared.Assembled.{Assembled}
-use Rattle.assembler.specs.Answers.{assembledTold}
-use Rattle.assembler.specs.Questions.{assembleTold}
+use Rattle.assembler.specs.Answers.{assembledOutcome}
+use Rattle.assembler.specs.Questions.{assembleOutcome}
 use Rattle.assembler.specs.Memories.{assembledImage, assembledData}
 
 -- A text is assembled into `image` and `memory`; r is answered, and they are `imageAfter` and `memoryAfter` then.
 pub record Assembling (source image memory : List ℕ) (r : Assembled) (imageAfter memoryAfter : List ℕ) : Type 0 where
-  pub answer : assembledTold r ≡ assembleTold source (length image) (length memory)
-  pub words : imageAfter ≡ unlessRefused (assembledTold r) (assembledImage source) image
-  pub data-words : memoryAfter ≡ unlessRefused (assembledTold r) (assembledData source) memory
+  pub answer : assembledOutcome r ≡ assembleOutcome source (length image) (length memory)
+  pub words : imageAfter ≡ unlessRefused (assembledOutcome r) (assembledImage source) image
+  pub data-words : memoryAfter ≡ unlessRefused (assembledOutcome r) (assembledData source) memory
   -- "bits above 47 are not read": those of a word that the assembler writes are 0.
-  pub high-bits : assembledTold r ≡ accepted 0 → Below (2 ^ 48) imageAfter
+  pub high-bits : assembledOutcome r ≡ accepted 0 → Below (2 ^ 48) imageAfter

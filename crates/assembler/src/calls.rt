@@ -1,16 +1,16 @@
 // The call: a text assembled into a lent image and data memory.
 use crate::Assembled;
-use crate::Passed;
+use crate::BothPasses;
 use crate::Refusal;
-use crate::ask::MOST_LABELS;
-use crate::labels::find_labels;
-use crate::store::copy_image;
 use crate::translate::translate;
+use labels::MOST_LABELS;
+use labels::find_labels;
 use lines::forms::PLACES;
 use lines::instructions::NAME_WORDS;
 use lines::instructions::NAMES;
 use lines::instructions::add_names;
 use text::digits::digit_values;
+use words::copies::copy_long_words;
 use words::copies::copy_words;
 ghost use mathlib.Core.Path.{_≡_};
 ghost use mathlib.Core.Bool.{true, _&&_};
@@ -21,10 +21,11 @@ ghost use Rattle.text.specs.Questions.{refused as refusedOf};
 ghost use Rattle.symbols.specs.Table.{entryAt};
 ghost use Rattle.symbols.specs.Sound.{Empty};
 ghost use Rattle.files.specs.Sizes.{imageWords, dataWords, isImageLength, isDataLength};
-ghost use Rattle.assembler.specs.Questions.{mostSource};
-ghost use Rattle.assembler.specs.Answers.{assembledTold};
+ghost use Rattle.labels.specs.Limits.{mostSource};
+ghost use Rattle.assembler.specs.Answers.{assembledOutcome};
 ghost use Rattle.assembler.specs.Promises.{Assembling};
-ghost use Rattle.assembler.specs.Passes.{Translated, PassedWith, labelsWithin};
+ghost use Rattle.assembler.specs.Passes.{Translated, PassedWith};
+ghost use Rattle.labels.specs.Tables.{labelsWithin};
 
 // The bytes of the longest text.
 const MOST_SOURCE: usize = 262_144;
@@ -47,12 +48,26 @@ pub fn assemble(source: &[u8], image: &mut [u64], memory: &mut [u32]) -> Assembl
     }
     let mut words = [0u64; MEMORY_WORDS];
     let mut stored = [0u32; MEMORY_WORDS];
-    let r = pass_twice(source, &mut words, &mut stored);
+    assemble_with(source, &mut words, &mut stored, image, memory)
+}
+
+// The same with lent lengths that are right, and working memories that are zero.
+fn assemble_with(
+    source: &[u8],
+    words: &mut [u64],
+    stored: &mut [u32],
+    image: &mut [u64],
+    memory: &mut [u32],
+) -> Assembled
+    requires { ⌜ (length (now source) ≤ mostSource) × (length (now image) ≡ imageWords) × (length (now memory) ≡ dataWords) × (now words ≡ replicate imageWords 0) × (now stored ≡ replicate dataWords 0) ⌝ }
+    ensures { λ r. ⌜ Assembling (now (source .entry)) (now (image .entry)) (now (memory .entry)) r (now (image .exit)) (now (memory .exit)) ⌝ }
+{
+    let r = pass_twice(source, words, stored);
     if r.number != 0 {
         return refused(r);
     }
-    copy_image(image, &words);
-    copy_words(memory, &stored);
+    copy_long_words(image, words);
+    copy_words(memory, stored);
     Assembled::Done
 }
 
@@ -84,7 +99,7 @@ fn pass_twice(source: &[u8], words: &mut [u64], memory: &mut [u32]) -> Refusal
 }
 
 // Both passes with a table for the labels of a good text.
-fn pass_usual(source: &[u8], words: &mut [u64], memory: &mut [u32]) -> Passed
+fn pass_usual(source: &[u8], words: &mut [u64], memory: &mut [u32]) -> BothPasses
     requires { ⌜ (length (now source) ≤ mostSource) × (now words ≡ replicate imageWords 0) × (now memory ≡ replicate dataWords 0) ⌝ }
     ensures { λ r. ⌜ PassedWith (now (source .entry)) r (now (words .exit)) (now (memory .exit)) ⌝ }
 {
@@ -104,7 +119,7 @@ fn pass_large(source: &[u8], words: &mut [u64], memory: &mut [u32]) -> Refusal
 }
 
 // Both passes with an empty table, the second only if the table has room for all labels.
-fn pass_with(source: &[u8], table: &mut [u32], words: &mut [u64], memory: &mut [u32]) -> Passed
+fn pass_with(source: &[u8], table: &mut [u32], words: &mut [u64], memory: &mut [u32]) -> BothPasses
     requires { ⌜ (length (now source) ≤ mostSource) × Empty (now table) × (now words ≡ replicate imageWords 0) × (now memory ≡ replicate dataWords 0) ⌝ }
     ensures { λ r. ⌜ (PassedWith (now (source .entry)) r (now (words .exit)) (now (memory .exit))) × (entryAt (labelsWithin (length (now (source .entry)))) ≤ length (now (table .entry)) → r .whole ≡ true) ⌝ }
 {
@@ -116,7 +131,7 @@ fn pass_with(source: &[u8], table: &mut [u32], words: &mut [u64], memory: &mut [
     let mut values = [0u32; MOST_LABELS];
     let found = find_labels(source, table, &mut values, &mut places, &digits);
     if !found.all {
-        return Passed {
+        return BothPasses {
             whole: false,
             refusal: Refusal { number: 0, line: 0 },
         };
@@ -133,7 +148,7 @@ fn pass_with(source: &[u8], table: &mut [u32], words: &mut [u64], memory: &mut [
         words,
         memory,
     );
-    Passed {
+    BothPasses {
         whole: true,
         refusal: refusal,
     }
@@ -142,7 +157,7 @@ fn pass_with(source: &[u8], table: &mut [u32], words: &mut [u64], memory: &mut [
 // The answer that tells a refusal.
 fn refused(r: Refusal) -> Assembled
     requires { ⌜ (2 ≤ r .number) × (r .number ≤ 8) ⌝ }
-    ensures { λ a. ⌜ assembledTold a ≡ refusedOf (r .number) (r .line) ⌝ }
+    ensures { λ a. ⌜ assembledOutcome a ≡ refusedOf (r .number) (r .line) ⌝ }
 {
     let number = r.number;
     let line = r.line;

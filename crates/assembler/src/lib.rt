@@ -1,9 +1,6 @@
 // The assembler: assembly text into the instruction image and the data memory. What it answers and what a good text gives stand in specs/.
-mod ask;
+mod answers;
 mod calls;
-mod labels;
-mod read;
-mod store;
 mod translate;
 
 pub use calls::assemble;
@@ -30,38 +27,14 @@ pub enum Assembled {
     NoPlace(usize),
 }
 
-// What a line says: whether its names are known, its numbers are in range and the labels that it uses are defined; the word of its instruction; the
-// address and the data of its `.word`.
-pub struct Statement {
-    pub known: bool,
-    pub inside: bool,
-    pub defined: bool,
-    pub word: u64,
-    pub address: usize,
-    pub value: u32,
-}
-
-// An immediate: whether it is in range, whether it is a number or a label that is defined, and what is stored of it.
-pub struct Immediate {
-    pub inside: bool,
-    pub defined: bool,
-    pub value: u32,
-}
-
 // The first question that a line of a text got a no to, and the line; both are 0 where there is none.
 pub struct Refusal {
     pub number: u32,
     pub line: usize,
 }
 
-// What the first pass over a text finds: how many labels; whether it went to the end of the text, or stopped where the table had no room for one more.
-pub struct FirstPass {
-    pub labels: usize,
-    pub all: bool,
-}
-
 // What both passes find: whether the table had room for all labels of the text; if so, the refusal.
-pub struct Passed {
+pub struct BothPasses {
     pub whole: bool,
     pub refusal: Refusal,
 }

@@ -1,12 +1,12 @@
 // The second pass: the questions of each line, and what it stores.
 use crate::Refusal;
-use crate::ask::ask;
-use crate::labels::after_code;
-use crate::labels::after_label;
-use crate::read::read_statement;
-use crate::store::store_code;
-use crate::store::store_data;
+use labels::counts::after_code;
+use labels::counts::after_label;
 use lines::forms::line_form;
+use statements::ask::ask;
+use statements::read::read_statement;
+use statements::store::store_code;
+use statements::store::store_data;
 use text::lines::line_end;
 ghost use mathlib.Core.Path.{_≡_};
 ghost use Prim.Native.Nat.{_≤_};
@@ -16,8 +16,9 @@ ghost use Rattle.text.specs.Numerals.{DigitValues};
 ghost use Rattle.files.specs.Sizes.{imageWords, dataWords};
 ghost use Rattle.lines.specs.Parts.{mostPlaces};
 ghost use Rattle.lines.specs.Names.{NameTable};
-ghost use Rattle.assembler.specs.Questions.{mostSource};
-ghost use Rattle.assembler.specs.Passes.{LabelTable, Translated};
+ghost use Rattle.labels.specs.Limits.{mostSource};
+ghost use Rattle.labels.specs.Tables.{LabelTable};
+ghost use Rattle.assembler.specs.Passes.{Translated};
 
 // Asks each line of a text in turn, and stores what it says in words and a data memory that are zero; the first refusal. Before the line at p stand i
 // lines with n instructions and m labels.

@@ -9,29 +9,30 @@ use lib.ListN.{length, take, drop}
 use lib.Seq.{take-append-seam, drop-append-seam}
 use lib.Dec.{eqb}
 use borrow.Author.Tests.{eqb-true, eqb-false, eq-eqb, ne-eqb}
-use Rattle.text.specs.Questions.{Question, Told, accepted, firstNo}
+use Rattle.text.specs.declared.Outcome.{Outcome}
+use Rattle.text.specs.Questions.{Question, accepted, firstNo}
 use Rattle.text.proofs.QuestionLaws.{first-yes}
 use Rattle.claim.specs.Plain.{onward, after, logAfter, Makes}
-use Rattle.claim.specs.Calls.{Bytes, Lab, State, Stands, Call, run, runOther, trip, tripOther, Done, runTold}
-use Rattle.claim.specs.Calls.{Ran, runFrom, refuse, ran, runCall, moved, tripTold, tripCall, call, standing, session, total, joined, final}
-use Rattle.claim.specs.Demand.{AllYes, code, plain, plainLog, Agrees, Unchanged, Meets, Each, end, next, Demand3, Trace, done, then}
+use Rattle.claim.specs.Calls.{Bytes, Lab, State, Stands, Call, run, runOther, trip, tripOther, Done, runOutcome}
+use Rattle.claim.specs.Calls.{Ran, runFrom, refuse, ran, runCall, Halves, halves, tripped, tripOutcome, tripCall, call, standing, session, total, joined, final}
+use Rattle.claim.specs.Demand.{AllYes, code, plain, plainLog, Agrees, Unchanged, holding, Meets, Each, end, next, Demand3, Trace, done, then}
 use Rattle.claim.specs.Laws.{Numbered, Laws}
 use Rattle.claim.proofs.Runs.{after-add, log-add, makes-add, exact-makes, Runs, runs}
 
 -- ---- questions
 
 -- Where every question gets a yes, the call is accepted; ..
-yes-told : (qs : List Question) → AllYes qs → firstNo qs 0 (accepted 0) ≡ accepted 0
-yes-told [] all = refl
-yes-told (q ∷ qs) all = rw (all .0) (yes-told qs (all .1))
+yes-outcome : (qs : List Question) → AllYes qs → firstNo qs 0 (accepted 0) ≡ accepted 0
+yes-outcome [] all = refl
+yes-outcome (q ∷ qs) all = rw (all .0) (yes-outcome qs (all .1))
 
 -- .. only then.
-told-yes : (qs : List Question) → Numbered qs → firstNo qs 0 (accepted 0) .number ≡ 0 → AllYes qs
-told-yes [] numbered e = tt
-told-yes (q ∷ qs) numbered e =
+outcome-yes : (qs : List Question) → Numbered qs → firstNo qs 0 (accepted 0) .number ≡ 0 → AllYes qs
+outcome-yes [] numbered e = tt
+outcome-yes (q ∷ qs) numbered e =
     let number = numbered .0 in
     let first = first-yes (q .0) 0 (q .1) (firstNo qs 0 (accepted 0)) (omega arith) e in
-    (first .0, told-yes qs (numbered .1) (first .1))
+    (first .0, outcome-yes qs (numbered .1) (first .1))
 
 module _ (L : Lab) (laws : Laws L) (irqs : L .Irqs) where
   -- ---- the cycles of a run
@@ -59,8 +60,11 @@ module _ (L : Lab) (laws : Laws L) (irqs : L .Irqs) where
       pub makes : Makes (L .machine) (code L irqs start) (d .cycles) (plain L irqs start m)
 
     -- A call that is refused changes nothing.
-    unchanged : (w : Stands L) (log : Bytes) (told : Told) → Unchanged L irqs start w log (refuse L w log told)
-    unchanged w log told = record { same = refl; kept = refl; cycles = refl; bytes = refl; reason = refl }
+    unchanged : (w : Stands L) (log : Bytes) (outcome : Outcome) → Unchanged L irqs start w log (refuse L w log outcome)
+    unchanged w log outcome = record { same = refl; kept = refl; cycles = refl; bytes = refl; reason = refl }
+
+    trip-unchanged : (w : Stands L) (outcome : Outcome) (left : Halves L) → Unchanged L irqs start w [] (tripped L outcome w left)
+    trip-unchanged w outcome left = record { same = refl; kept = refl; cycles = refl; bytes = refl; reason = refl }
 
     module _ (m : ℕ) (w : Stands L) where
       -- A call that counts nothing.
@@ -84,22 +88,22 @@ module _ (L : Lab) (laws : Laws L) (irqs : L .Irqs) where
       carried budget room r = subst₂ (λ c s. Runs (L .machine) c s budget room r) (agrees .image) (agrees .state)
 
       -- Where it is accepted, ..
-      ran-step : (budget : ℕ) (log : Bytes) → runTold L irqs w .number ≡ 0
+      ran-step : (budget : ℕ) (log : Bytes) → runOutcome L irqs w .number ≡ 0
           → Stepped m w (run budget log) (ran L w log (runFrom (L .machine) (L .codeOf (w .image) irqs) budget (length log) (w .state)))
       ran-step budget log e =
           let r = runFrom (L .machine) (L .codeOf (w .image) irqs) budget (length log) (w .state) in
           let here = runs (L .machine) (L .codeOf (w .image) irqs) budget (length log) (w .state) in
           let there = carried budget (length log) r here in
-          let asked = told-yes (L .asks irqs w) (laws .numbered irqs w) e in
-          let told : accepted 0 ≡ runTold L irqs w = sym (yes-told (L .asks irqs w) asked) in
+          let asked = outcome-yes (L .asks irqs w) (laws .numbered irqs w) e in
+          let outcome : accepted 0 ≡ runOutcome L irqs w = sym (yes-outcome (L .asks irqs w) asked) in
           let said = take-append-seam (r .lines) (drop (length (r .lines)) log) ∙ there .lines in
           let makes = exact-makes (L .machine) (L .codeOf (w .image) irqs) (w .state) budget (length log) _ _ (here .exact) in
           record {
             meets = record {
-              asked = told;
+              asked = outcome;
               exactly = (λ h. asked, λ h. refl);
               refused = λ h. absurd (h refl);
-              asFirst = told ∙ laws .alike irqs w start good sound;
+              asFirst = outcome ∙ laws .alike irqs w start good sound;
               accepted = λ h. there .exact;
               bytes = ap length (there .lines);
               lines = said;
@@ -112,14 +116,14 @@ module _ (L : Lab) (laws : Laws L) (irqs : L .Irqs) where
           }
 
       -- .. and where it is refused.
-      refused-step : (budget : ℕ) (log : Bytes) → (runTold L irqs w .number ≡ 0 → ⊥)
-          → Stepped m w (run budget log) (refuse L w log (runTold L irqs w))
+      refused-step : (budget : ℕ) (log : Bytes) → (runOutcome L irqs w .number ≡ 0 → ⊥)
+          → Stepped m w (run budget log) (refuse L w log (runOutcome L irqs w))
       unfolding logAfter
       refused-step budget log refusal =
-          still m w (run budget log) (refuse L w log (runTold L irqs w))
+          still m w (run budget log) (refuse L w log (runOutcome L irqs w))
           (record {
             asked = refl;
-            exactly = (told-yes (L .asks irqs w) (laws .numbered irqs w), λ all. ap (λ (t : Told). t .number) (yes-told (L .asks irqs w) all));
+            exactly = (outcome-yes (L .asks irqs w) (laws .numbered irqs w), λ all. ap (λ (t : Outcome). t .number) (yes-outcome (L .asks irqs w) all));
             refused = λ h. unchanged w log _;
             asFirst = laws .alike irqs w start good sound;
             accepted = λ h. absurd (refusal h);
@@ -130,12 +134,12 @@ module _ (L : Lab) (laws : Laws L) (irqs : L .Irqs) where
           good agrees refl refl
 
       -- A run that is lent something else.
-      other-step : (budget : ℕ) (log : Bytes) (other : L .Irqs) (lent : Stands L) (refusal : runTold L other lent .number ≡ 0 → ⊥)
+      other-step : (budget : ℕ) (log : Bytes) (other : L .Irqs) (lent : Stands L) (refusal : runOutcome L other lent .number ≡ 0 → ⊥)
           → Stepped m w (runOther budget log other lent refusal) (runCall L budget log other lent)
       unfolding runCall
       other-step budget log other lent refusal =
-          rw (ne-eqb (runTold L other lent .number) 0 refusal)
-          (still m w (runOther budget log other lent refusal) (refuse L lent log (runTold L other lent))
+          rw (ne-eqb (runOutcome L other lent .number) 0 refusal)
+          (still m w (runOther budget log other lent refusal) (refuse L lent log (runOutcome L other lent))
           (record { asked = refl; refused = (refusal, unchanged lent log _) })
           good agrees refl refl)
 
@@ -143,55 +147,79 @@ module _ (L : Lab) (laws : Laws L) (irqs : L .Irqs) where
       trip-step : (k : L .Kind) (space : Bytes) (into : L .Slice k) (same : L .SameLength k into)
           → Stepped m w (trip k space into same) (tripCall L w k (L .part k w) space into)
       unfolding tripCall
-      trip-step k space into same = go (eqb (L .writeTold k (L .part k w) space .number) 0) refl
+      trip-step k space into same = go (eqb (L .writeOutcome k (L .part k w) space .number) 0) refl
         where
-          go : (t : Bool) → eqb (L .writeTold k (L .part k w) space .number) 0 ≡ t
+          go : (t : Bool) → eqb (L .writeOutcome k (L .part k w) space .number) 0 ≡ t
               → Stepped m w (trip k space into same) (tripCall L w k (L .part k w) space into)
           go true e =
               let back = laws .back w good k space (eqb-true _ _ e) into same in
+              let slice = L .readInto k (L .textOf k (L .part k w)) into in
               rw (e, eq-eqb _ _ (back .0))
-              (still m w (trip k space into same) (moved L (L .place k (L .readInto k (L .textOf k (L .part k w)) into) w))
-              (record { asked = rw (e, eq-eqb _ _ (back .0)); accepted = λ h. refl; refused = λ h. absurd (h refl); counts = (refl, refl, refl) })
+              (still m w (trip k space into same) (tripped L (accepted 0) (L .place k slice w) (halves k (L .wroteInto k (L .part k w) space) slice))
+              (record {
+                asked = rw (e, eq-eqb _ _ (back .0));
+                accepted = λ h. refl;
+                sent = L .wroteInto k (L .part k w) space;
+                slice = slice;
+                left = refl;
+                written = λ h. laws .written k (L .part k w) space (eqb-true _ _ e);
+                placed = λ h. refl;
+                refused = λ h. absurd (h refl);
+                counts = (refl, refl, refl);
+              })
               (back .1)
               (record { state = back .2 ∙ agrees .state; image = back .3 irqs ∙ agrees .image })
               refl refl)
           go false e =
+              let kept = laws .unwritten k (L .part k w) space (eqb-false _ _ e) in
               rw e
-              (still m w (trip k space into same) (refuse L w [] (L .writeTold k (L .part k w) space))
+              (still m w (trip k space into same) (tripped L (L .writeOutcome k (L .part k w) space) w (halves k (L .wroteInto k (L .part k w) space) into))
               (record {
                 asked = rw e;
                 accepted = laws .room w good k space;
-                refused = λ h. unchanged w [] _;
+                sent = L .wroteInto k (L .part k w) space;
+                slice = into;
+                left = refl;
+                written = λ h. absurd (eqb-false _ _ e h);
+                placed = λ h. absurd (eqb-false _ _ e h);
+                refused = λ h. (trip-unchanged w _ _, kept, refl);
                 counts = (refl, refl, refl);
               })
               good agrees refl refl)
 
       -- .. and one that is lent something else.
       other-trip-step : (k : L .Kind) (out : L .Lent k) (space : Bytes) (into : L .Slice k)
-          (refusal : L .writeTold k out space .number ≡ 0 → L .readTold k (L .textOf k out) into .number ≡ 0 → ⊥)
+          (refusal : L .writeOutcome k out space .number ≡ 0 → L .readOutcome k (L .textOf k out) into .number ≡ 0 → ⊥)
           → Stepped m w (tripOther k out space into refusal) (tripCall L w k out space into)
       unfolding tripCall
       other-trip-step k out space into refusal =
-          go (eqb (L .writeTold k out space .number) 0) refl (eqb (L .readTold k (L .textOf k out) into .number) 0) refl
+          go (eqb (L .writeOutcome k out space .number) 0) refl (eqb (L .readOutcome k (L .textOf k out) into .number) 0) refl
         where
-          refuses : (t : Told) → t ≡ tripTold L k out space into → (t .number ≡ 0 → ⊥) → Stepped m w (tripOther k out space into refusal) (refuse L w [] t)
-          refuses t told h =
-              still m w (tripOther k out space into refusal) (refuse L w [] t)
-              (record { asked = told; refused = (h, unchanged w [] t) })
+          refuses : (t : Outcome) (left : Halves L) → t ≡ tripOutcome L k out space into → (t .number ≡ 0 → ⊥)
+              → ((L .writeOutcome k out space .number ≡ 0 → ⊥) → left ≡ halves k space into)
+              → (L .writeOutcome k out space .number ≡ 0 → left ≡ halves k (holding L irqs start (L .textOf k out) space) (L .refusedInto k into))
+              → Stepped m w (tripOther k out space into refusal) (tripped L t w left)
+          refuses t left outcome h writer reader =
+              still m w (tripOther k out space into refusal) (tripped L t w left)
+              (record { asked = outcome; refused = (h, trip-unchanged w t left); writer = writer; reader = reader })
               good agrees refl refl
 
-          go : (t : Bool) → eqb (L .writeTold k out space .number) 0 ≡ t → (u : Bool) → eqb (L .readTold k (L .textOf k out) into .number) 0 ≡ u
+          go : (t : Bool) → eqb (L .writeOutcome k out space .number) 0 ≡ t → (u : Bool) → eqb (L .readOutcome k (L .textOf k out) into .number) 0 ≡ u
               → Stepped m w (tripOther k out space into refusal) (tripCall L w k out space into)
           go true e true f = absurd (refusal (eqb-true _ _ e) (eqb-true _ _ f))
-          go true e false f = rw (e, f) (refuses _ (rw (e, f)) (eqb-false _ _ f))
-          go false e u f = rw e (refuses _ (rw e) (eqb-false _ _ e))
+          go true e false f =
+              rw (e, f)
+              (refuses _ _ (rw (e, f)) (eqb-false _ _ f) (λ h. absurd (h (eqb-true _ _ e)))
+              (λ h. rw (laws .written k out space h, laws .unread k (L .textOf k out) into (eqb-false _ _ f))))
+          go false e u f =
+              rw e (refuses _ _ (rw e) (eqb-false _ _ e) (λ h. rw (laws .unwritten k out space h)) (λ h. absurd (eqb-false _ _ e h)))
 
       -- Any call.
       step : (c : Call L) → Stepped m w c (call L irqs w c)
       unfolding runCall
-      step (run budget log) = go (eqb (runTold L irqs w .number) 0) refl
+      step (run budget log) = go (eqb (runOutcome L irqs w .number) 0) refl
         where
-          go : (t : Bool) → eqb (runTold L irqs w .number) 0 ≡ t → Stepped m w (run budget log) (runCall L budget log irqs w)
+          go : (t : Bool) → eqb (runOutcome L irqs w .number) 0 ≡ t → Stepped m w (run budget log) (runCall L budget log irqs w)
           go true e = rw e (ran-step budget log (eqb-true _ _ e))
           go false e = rw e (refused-step budget log (eqb-false _ _ e))
       step (runOther budget log other lent refusal) = other-step budget log other lent refusal
@@ -262,6 +290,11 @@ module _ (L : Lab) (laws : Laws L) (irqs : L .Irqs) where
       free-then c a h =
           let left = left-at c 1024 a (omega arith) (omega arith) in
           rw add-suc (laws .free (later start (suc (c + 1024))) (good-at _ (omega arith)) (omega arith))
+
+-- A call keeps what stands good.
+pub call-good : (L : Lab) (laws : Laws L) (irqs : L .Irqs) (w : Stands L) → laws .Good w → (c : Call L) → laws .Good (standing L w c (call L irqs w c))
+unfolding after
+call-good L laws irqs w good c = step L laws irqs w good 0 w good (record { state = refl; image = refl }) c .good
 
 -- ---- demand 3
 

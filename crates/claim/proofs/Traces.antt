@@ -7,7 +7,7 @@ use native.Mathlib.Nat.{add-assoc, add-zero, zero-add}
 use native.Mathlib.Omega.{arith}
 use lib.Dec.{eqb}
 use Rattle.claim.specs.Plain.{Machine}
-use Rattle.claim.specs.Calls.{Bytes, Lab, Stands, Call, Done, runFrom, runTold, runCall, call, standing, total, final}
+use Rattle.claim.specs.Calls.{Bytes, Lab, Stands, Call, Done, runFrom, runOutcome, runCall, call, standing, total, final}
 use Rattle.claim.specs.Demand.{Trace, done, then}
 use Rattle.claim.proofs.Runs.{runs, goes-on}
 
@@ -45,8 +45,8 @@ cycles-within M code budget room s = go (runFrom M code budget room s .cycles) r
 
 pub call-within : (L : Lab) (budget : ℕ) (log : Bytes) (irqs : L .Irqs) (w : Stands L) → runCall L budget log irqs w .cycles ≤ budget
 unfolding runCall
-call-within L budget log irqs w = go (eqb (runTold L irqs w .number) 0) refl
+call-within L budget log irqs w = go (eqb (runOutcome L irqs w .number) 0) refl
   where
-    go : (t : Bool) → eqb (runTold L irqs w .number) 0 ≡ t → runCall L budget log irqs w .cycles ≤ budget
+    go : (t : Bool) → eqb (runOutcome L irqs w .number) 0 ≡ t → runCall L budget log irqs w .cycles ≤ budget
     go true e = rw e (cycles-within (L .machine) (L .codeOf (w .image) irqs) budget _ (w .state))
     go false e = rw e (omega arith)

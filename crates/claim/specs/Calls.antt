@@ -6,7 +6,8 @@ use mathlib.Core.Bool.{Bool, true, cond}
 use mathlib.Core.List.{List, [], _∷_, _++_}
 use lib.ListN.{length, take, drop}
 use lib.Dec.{ltb}
-use Rattle.text.specs.Questions.{Question, Told, accepted, firstNo, unlessRefused}
+use Rattle.text.specs.declared.Outcome.{Outcome}
+use Rattle.text.specs.Questions.{Question, accepted, firstNo, unlessRefused}
 use Rattle.claim.specs.Plain.{Machine}
 
 abbrev pub Bytes : Type 0
@@ -35,12 +36,15 @@ pub record Lab : Type 1 where
   pub Slice : Kind → Type 0
   pub part : (k : Kind) → World Image (machine .State) → Lent k
   pub place : (k : Kind) → Slice k → World Image (machine .State) → World Image (machine .State)
-  -- Such a thing is written into lent text space: what the writer tells, and the text.
-  pub writeTold : (k : Kind) → Lent k → Bytes → Told
+  -- Such a thing is written into lent text space: what the writer answers, the text, and the space then, where it is refused too.
+  pub writeOutcome : (k : Kind) → Lent k → Bytes → Outcome
   pub textOf : (k : Kind) → Lent k → Bytes
-  -- A text is read into a lent slice: what the reader tells, and the slice then.
-  pub readTold : (k : Kind) → Bytes → Slice k → Told
+  pub wroteInto : (k : Kind) → Lent k → Bytes → Bytes
+  -- A text is read into a lent slice: what the reader answers, and the slice then, where it is refused too.
+  pub readOutcome : (k : Kind) → Bytes → Slice k → Outcome
   pub readInto : (k : Kind) → Bytes → Slice k → Slice k
+  -- What a refused reader leaves of its slice: "lent memory keeps its contents; .. a record reader the fresh one".
+  pub refusedInto : (k : Kind) → Slice k → Slice k
   -- "a slice of the same length" as the thing; lent text space of the right length, or with room for the text.
   pub SameLength : (k : Kind) → Slice k → Type 0
   pub Room : (k : Kind) → Bytes → Type 0
@@ -83,74 +87,88 @@ module _ (L : Lab) where
   abbrev pub Stands : Type 0
   Stands = World (L .Image) State
 
-  -- What the questions of a run tell.
-  abbrev pub runTold : L .Irqs → Stands → Told
-  runTold irqs w = firstNo (L .asks irqs w) 0 (accepted 0)
+  -- What the questions of a run answer.
+  abbrev pub runOutcome : L .Irqs → Stands → Outcome
+  runOutcome irqs w = firstNo (L .asks irqs w) 0 (accepted 0)
 
   pub data Call : Type 0 where
     -- "Each call gets the record, image and memories that the last one returned or left .. Each run is lent that irq2 list."
     run : (budget : ℕ) (log : Bytes) → Call
     -- "a call that is to be refused may instead be lent wrong lengths .. or an irq2 list that doesn't rise": anything that a question refuses;
     -- `lent` may be what stands.
-    runOther : (budget : ℕ) (log : Bytes) (irqs : L .Irqs) (lent : Stands) → (runTold irqs lent .number ≡ 0 → ⊥) → Call
+    runOther : (budget : ℕ) (log : Bytes) (irqs : L .Irqs) (lent : Stands) → (runOutcome irqs lent .number ≡ 0 → ⊥) → Call
     -- "A return trip saves the record and reads those bytes, or writes the image, a memory or a part of the disk as text and reads that text into
     -- a slice of the same length, whatever it held, which then takes its place."
     trip : (k : L .Kind) (space : Bytes) (into : L .Slice k) → L .SameLength k into → Call
     -- A trip one of whose halves is to be refused; `out` is what its writer is lent, what stands or not. ("too little text space" needs only `trip`,
     -- whose space is any.)
     tripOther : (k : L .Kind) (out : L .Lent k) (space : Bytes) (into : L .Slice k)
-        → (L .writeTold k out space .number ≡ 0 → L .readTold k (L .textOf k out) into .number ≡ 0 → ⊥) → Call
+        → (L .writeOutcome k out space .number ≡ 0 → L .readOutcome k (L .textOf k out) into .number ≡ 0 → ⊥) → Call
 
-  -- What a call tells and counts; the log, the image, the record and the memories that a run was lent, as they are after it; after a trip, what stands.
+  -- What a return trip leaves of the text space and the slice that it was lent; a run is lent neither.
+  pub data Halves : Type 0 where
+    none : Halves
+    halves : (k : L .Kind) (space : Bytes) (slice : L .Slice k) → Halves
+
+  -- What a call answers and counts; the log, the image, the record and the memories that a run was lent, as they are after it; after a trip, what
+  -- stands, and the text space and the slice that it was lent.
   pub record Done : Type 0 where
-    pub told : Told
+    pub outcome : Outcome
     pub cycles : ℕ
     pub bytes : ℕ
     pub reason : ℕ
     pub log : Bytes
     pub lent : Stands
+    pub trip-left : Halves
 
   -- "lent memory keeps its contents; a run hands its record back .. every count and reason 0"
-  abbrev pub refuse : Stands → Bytes → Told → Done
-  refuse w log told = record { told = told; cycles = 0; bytes = 0; reason = 0; log = log; lent = w }
+  abbrev pub refuse : Stands → Bytes → Outcome → Done
+  refuse w log outcome = record { outcome = outcome; cycles = 0; bytes = 0; reason = 0; log = log; lent = w; trip-left = none }
 
   -- "It returns record, cycles done, log bytes written and reason; log bytes beyond those keep their contents."
   abbrev pub ran : Stands → Bytes → Ran State → Done
   ran w log r =
       record {
-        told = accepted 0;
+        outcome = accepted 0;
         cycles = r .cycles;
         bytes = length (r .lines);
         reason = r .reason;
         log = r .lines ++ drop (length (r .lines)) log;
         lent = record { image = w .image; state = r .state };
+        trip-left = none;
       }
 
   -- RUN, whatever it is lent.
   unfoldable pub runCall : (budget : ℕ) (log : Bytes) (irqs : L .Irqs) (lent : Stands) → Done
   runCall budget log irqs lent =
-      unlessRefused (runTold irqs lent)
+      unlessRefused (runOutcome irqs lent)
       (ran lent log (runFrom (L .machine) (L .codeOf (lent .image) irqs) budget (length log) (lent .state)))
-      (refuse lent log (runTold irqs lent))
+      (refuse lent log (runOutcome irqs lent))
 
-  -- An accepted trip: it counts nothing, and w stands after it.
-  abbrev pub moved : Stands → Done
-  moved w = record { told = accepted 0; cycles = 0; bytes = 0; reason = 0; log = []; lent = w }
+  -- A trip counts nothing; w stands after it, and these are the text space and the slice that it was lent.
+  abbrev pub tripped : Outcome → Stands → Halves → Done
+  tripped outcome w left = record { outcome = outcome; cycles = 0; bytes = 0; reason = 0; log = []; lent = w; trip-left = left }
 
-  -- What a trip tells: the first refusal of its halves, if one refuses.
-  abbrev pub tripTold : (k : L .Kind) (out : L .Lent k) (space : Bytes) (into : L .Slice k) → Told
-  tripTold k out space into =
-      let wrote = L .writeTold k out space in
-      let got = L .readTold k (L .textOf k out) into in
+  -- What a trip answers: the first refusal of its halves, if one refuses.
+  abbrev pub tripOutcome : (k : L .Kind) (out : L .Lent k) (space : Bytes) (into : L .Slice k) → Outcome
+  tripOutcome k out space into =
+      let wrote = L .writeOutcome k out space in
+      let got = L .readOutcome k (L .textOf k out) into in
       unlessRefused wrote (unlessRefused got (accepted 0) got) wrote
 
   -- A RETURN TRIP of `out` while w stands: "Where .. either half of a trip is refused, the list goes on with what stood before it."
   unfoldable pub tripCall : (w : Stands) (k : L .Kind) (out : L .Lent k) (space : Bytes) (into : L .Slice k) → Done
   tripCall w k out space into =
-      let wrote = L .writeTold k out space in
+      let wrote = L .writeOutcome k out space in
       let text = L .textOf k out in
-      let got = L .readTold k text into in
-      unlessRefused wrote (unlessRefused got (moved (L .place k (L .readInto k text into) w)) (refuse w [] got)) (refuse w [] wrote)
+      let sent = L .wroteInto k out space in
+      let got = L .readOutcome k text into in
+      let slice = L .readInto k text into in
+      unlessRefused wrote
+      (unlessRefused got
+      (tripped (accepted 0) (L .place k slice w) (halves k sent slice))
+      (tripped got w (halves k sent slice)))
+      (tripped wrote w (halves k sent into))
 
   -- What stands after a call that left d while w stood: what it was lent; but w, where it was lent something else.
   abbrev pub standing : Stands → Call → Done → Stands

@@ -3,11 +3,11 @@ use Prim.Native.Nat.{ℕ, _+_, _<_, _≤_}
 use mathlib.Core.Path.{_≡_}
 use mathlib.Core.Logic.{_↔_}
 use mathlib.Core.Bool.{Bool, true, false}
-use mathlib.Core.List.{List, [], _∷_}
+use mathlib.Core.List.{List, [], _∷_, _++_}
 use lib.ListN.{length, take, drop}
 use Rattle.text.specs.Questions.{Question}
 use Rattle.claim.specs.Plain.{after, logAfter, Makes, Exact}
-use Rattle.claim.specs.Calls.{Bytes, Lab, Stands, State, Call, run, runOther, trip, tripOther, Done, runTold, tripTold, call, standing, total, joined, final}
+use Rattle.claim.specs.Calls.{Bytes, Lab, Stands, State, Call, run, runOther, trip, tripOther, halves, Done, runOutcome, tripOutcome, call, standing, total, joined, final}
 
 -- Every question gets a yes.
 abbrev pub AllYes : List Question → Type 0
@@ -34,7 +34,7 @@ module _ (L : Lab) (irqs : L .Irqs) (start : Stands L) where
 
   -- The call is accepted.
   abbrev pub Accepted : Done L → Type 0
-  Accepted d = d .told .number ≡ 0
+  Accepted d = d .outcome .number ≡ 0
 
   -- A refused call "counts zero", and nothing that it was lent changes.
   pub record Unchanged (w : Stands L) (log : Bytes) (d : Done L) : Type 0 where
@@ -47,11 +47,11 @@ module _ (L : Lab) (irqs : L .Irqs) (start : Stands L) where
   -- A run that is lent what stands, w, when the calls before it have counted m cycles in total.
   pub record OwnRun (m : ℕ) (w : Stands L) (budget : ℕ) (log : Bytes) (d : Done L) : Type 0 where
     -- "A run is refused exactly when a question that document 01 asks of it gets a no, and then counts zero."
-    pub asked : d .told ≡ runTold L irqs w
+    pub asked : d .outcome ≡ runOutcome L irqs w
     pub exactly : Accepted d ↔ AllYes (L .asks irqs w)
     pub refused : (Accepted d → ⊥) → Unchanged w log d
     -- Each run is told what a run from the start would be: none "works in its first call and afterwards only copies its record or refuses".
-    pub asFirst : d .told ≡ runTold L irqs start
+    pub asFirst : d .outcome ≡ runOutcome L irqs start
     -- "An accepted run makes cycles exactly until its budget is spent or that machine, after all cycles so far, has stopped, is at the cycle limit
     -- or has a next cycle whose lines don't fit, whichever comes first. It reports their number and document 01's reason."
     pub accepted : Accepted d → Exact (L .machine) code (plain m) budget (length log) (d .cycles) (d .reason)
@@ -62,20 +62,33 @@ module _ (L : Lab) (irqs : L .Irqs) (start : Stands L) where
 
   -- A run that is lent something else is refused.
   pub record OtherRun (log : Bytes) (other : L .Irqs) (lent : Stands L) (d : Done L) : Type 0 where
-    pub asked : d .told ≡ runTold L other lent
+    pub asked : d .outcome ≡ runOutcome L other lent
     pub refused : (Accepted d → ⊥) × Unchanged lent log d
+
+  -- The text space of a written text: it holds the text, and what lies beyond keeps its contents.
+  abbrev pub holding : Bytes → Bytes → Bytes
+  holding text space = text ++ drop (length text) space
 
   -- "With right lent lengths and room for the text no such save, write or read is refused; where one is, nothing changes."
   pub record OwnTrip (w : Stands L) (k : L .Kind) (space : Bytes) (into : L .Slice k) (d : Done L) : Type 0 where
-    pub asked : d .told ≡ tripTold L k (L .part k w) space into
+    pub asked : d .outcome ≡ tripOutcome L k (L .part k w) space into
     pub accepted : L .Room k space → Accepted d
-    pub refused : (Accepted d → ⊥) → Unchanged w [] d
+    -- The text space and the slice after it.
+    pub sent : Bytes
+    pub slice : L .Slice k
+    pub left : d .trip-left ≡ halves k sent slice
+    -- Accepted, the text is in the space, and the slice "then takes its place".
+    pub written : Accepted d → sent ≡ holding (L .textOf k (L .part k w)) space
+    pub placed : Accepted d → d .lent ≡ L .place k slice w
+    pub refused : (Accepted d → ⊥) → Unchanged w [] d × (sent ≡ space) × (slice ≡ into)
     pub counts : (d .cycles ≡ 0) × (d .bytes ≡ 0) × (d .reason ≡ 0)
 
-  -- A trip that is lent something else is refused.
+  -- A trip that is lent something else is refused. The half that is refused changes nothing.
   pub record OtherTrip (w : Stands L) (k : L .Kind) (out : L .Lent k) (space : Bytes) (into : L .Slice k) (d : Done L) : Type 0 where
-    pub asked : d .told ≡ tripTold L k out space into
+    pub asked : d .outcome ≡ tripOutcome L k out space into
     pub refused : (Accepted d → ⊥) × Unchanged w [] d
+    pub writer : (L .writeOutcome k out space .number ≡ 0 → ⊥) → d .trip-left ≡ halves k space into
+    pub reader : L .writeOutcome k out space .number ≡ 0 → d .trip-left ≡ halves k (holding (L .textOf k out) space) (L .refusedInto k into)
 
   -- What the demand says of one call, when w stands and the calls before it have counted m cycles.
   abbrev pub Meets : ℕ → Stands L → Call L → Done L → Type 0

@@ -2,10 +2,11 @@
 use Prim.Native.Nat.{ℕ, suc}
 use mathlib.Core.Path.{_≡_}
 use mathlib.Core.Bool.{true, false}
-use mathlib.Core.List.{List, [], _∷_}
+use mathlib.Core.List.{List, [], _∷_, _++_}
+use lib.ListN.{length, drop}
 use Rattle.text.specs.Questions.{Question}
 use Rattle.claim.specs.Plain.{isOver}
-use Rattle.claim.specs.Calls.{Bytes, Lab, Stands, State, runTold}
+use Rattle.claim.specs.Calls.{Bytes, Lab, Stands, State, runOutcome}
 
 -- No question has the number 0, which tells that a call is accepted.
 abbrev pub Numbered : List Question → Type 0
@@ -24,15 +25,20 @@ pub record Laws (L : Lab) : Type 1 where
   -- No question of a run has the number 0.
   pub numbered : (irqs : L .Irqs) (w : Stands L) → Numbered (L .asks irqs w)
   -- The answers to them then depend on the interrupt list alone.
-  pub alike : (irqs : L .Irqs) (v w : Stands L) → Good v → Good w → runTold L irqs v ≡ runTold L irqs w
+  pub alike : (irqs : L .Irqs) (v w : Stands L) → Good v → Good w → runOutcome L irqs v ≡ runOutcome L irqs w
   -- A thing is written where there is room for it, and reads back as the same thing.
-  pub room : (w : Stands L) → Good w → (k : L .Kind) (space : Bytes) → L .Room k space → L .writeTold k (L .part k w) space .number ≡ 0
-  pub back : (w : Stands L) → Good w → (k : L .Kind) (space : Bytes) → L .writeTold k (L .part k w) space .number ≡ 0
+  pub room : (w : Stands L) → Good w → (k : L .Kind) (space : Bytes) → L .Room k space → L .writeOutcome k (L .part k w) space .number ≡ 0
+  pub back : (w : Stands L) → Good w → (k : L .Kind) (space : Bytes) → L .writeOutcome k (L .part k w) space .number ≡ 0
       → (into : L .Slice k) → L .SameLength k into
-      → (L .readTold k (L .textOf k (L .part k w)) into .number ≡ 0)
+      → (L .readOutcome k (L .textOf k (L .part k w)) into .number ≡ 0)
       × Good (L .place k (L .readInto k (L .textOf k (L .part k w)) into) w)
       × (L .place k (L .readInto k (L .textOf k (L .part k w)) into) w .state ≡ w .state)
       × ((irqs : L .Irqs) → L .codeOf (L .place k (L .readInto k (L .textOf k (L .part k w)) into) w .image) irqs ≡ L .codeOf (w .image) irqs)
+  -- What an accepted writer, a refused one and a refused reader leave.
+  pub written : (k : L .Kind) (out : L .Lent k) (space : Bytes) → L .writeOutcome k out space .number ≡ 0
+      → L .wroteInto k out space ≡ L .textOf k out ++ drop (length (L .textOf k out)) space
+  pub unwritten : (k : L .Kind) (out : L .Lent k) (space : Bytes) → (L .writeOutcome k out space .number ≡ 0 → ⊥) → L .wroteInto k out space ≡ space
+  pub unread : (k : L .Kind) (text : Bytes) (into : L .Slice k) → (L .readOutcome k text into .number ≡ 0 → ⊥) → L .readInto k text into ≡ L .refusedInto k into
   -- The disk's cycles to go: 1,024 after a command, one fewer after each cycle; the disk is busy while there are any.
   pub left : State L → ℕ
   pub taken : (irqs : L .Irqs) (w : Stands L) → Good w → L .accepts (L .codeOf (w .image) irqs) (w .state) ≡ true

@@ -9,7 +9,7 @@ use Rattle.text.specs.Lines.{lines, firstLine}
 use Rattle.text.proofs.LineLaws.{lines-at}
 use Rattle.lines.specs.declared.Form.{Form}
 use Rattle.lines.specs.Line.{formOf, hasCode}
-use Rattle.assembler.specs.Text.{codeCount}
+use Rattle.labels.specs.Text.{codeCount}
 
 -- One line more.
 line-more : (l : List ℕ) (ls : List (List ℕ)) → codeCount (l ∷ ls) ≡ cond (hasCode (formOf l)) 1 0 + codeCount ls

@@ -1,9 +1,9 @@
 // The command `picture`: a frame as a picture.
-use memories::has_same;
-use memories::keep_at;
-use memories::load_frame;
+use memories::commit_at;
+use memories::load_frame_at;
+use memories::names_clash;
 use memories::say_at;
-use memories::stage_bytes;
+use memories::write_new_bytes;
 use outputs::put_picture;
 ghost use Prim.Native.Nat.{_+_, _^_, _<_};
 
@@ -14,17 +14,17 @@ const ROOM: usize = 65_551;
 pub fn draw_frame(monitor: usize)
     requires { ⌜ monitor + 2 < 2 ^ 64 ⌝ }
 {
-    if has_same(monitor, 1, 2) {
+    if names_clash(monitor, 1, 2) {
         return;
     }
     let mut frame = [0u8; 65536];
-    if !load_frame(monitor, &mut frame) {
+    if !load_frame_at(monitor, &mut frame) {
         return;
     }
     let picture = monitor + 1;
     let mut text = [0u8; ROOM];
     let n = put_picture(&frame, &mut text);
-    if keep_at(picture, stage_bytes(picture, &text[..n])) {
+    if commit_at(picture, write_new_bytes(picture, &text[..n])) {
         say_at(picture, b" is written: 256 by 256 pixels\n");
     }
 }

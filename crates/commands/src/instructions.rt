@@ -9,7 +9,7 @@ ghost use mathlib.Core.Bool.{cond};
 ghost use mathlib.Core.Path.{_≡_};
 ghost use Rattle.text.specs.Lines.{lines};
 ghost use Rattle.lines.specs.Line.{hasCode};
-ghost use Rattle.assembler.specs.Text.{codeCount};
+ghost use Rattle.labels.specs.Text.{codeCount};
 
 // How many instructions a program has: as many as it has lines with one.
 pub fn count_instructions(text: &[u8]) -> usize

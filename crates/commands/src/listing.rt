@@ -1,13 +1,12 @@
 // The command `list`: an instruction file as assembly text.
 use console::say;
-use lister::Listed;
 use lister::list;
-use memories::load_image;
+use lister::used_words;
+use memories::load_image_at;
 use memories::refuse_at;
 use memories::say_at;
 ghost use mathlib.Core.Path.{_≡_};
 ghost use lib.ListN.{length};
-ghost use Rattle.io.specs.Counts.{Counts};
 
 // Room for a listing of 4,096 words: a line of one has at most 46 bytes.
 const ROOM: usize = 188_416;
@@ -15,11 +14,12 @@ const ROOM: usize = 188_416;
 // Prints the words of the instruction file that an argument names, up to the last that is not zero, as assembly text.
 pub fn list_file(i: usize) {
     let mut image = [0u64; 4096];
-    if load_image(i, &mut image) {
+    if load_image_at(i, &mut image) {
         list_image(i, &image);
     }
 }
 
+// Prints the listing of an image, or that there is nothing in it.
 fn list_image(i: usize, image: &[u64]) {
     let n = used_words(image);
     if n == 0 {
@@ -29,20 +29,6 @@ fn list_image(i: usize, image: &[u64]) {
     list_words(i, &image[..n]);
 }
 
-// How many words there are up to the last that is not zero.
-fn used_words(words: &[u64]) -> usize
-    ensures { λ r. ⌜ Counts r (now (words .entry)) ⌝ }
-{
-    let mut n = words.len();
-    while 0 < n {
-        if words[n - 1] != 0 {
-            return n;
-        }
-        n -= 1;
-    }
-    0
-}
-
 // Room for a listing.
 fn room() -> [u8; ROOM]
     ensures { λ r. ⌜ 188416 ≡ length r ⌝ }
@@ -50,12 +36,14 @@ fn room() -> [u8; ROOM]
     [0u8; ROOM]
 }
 
+// Prints the listing of words, or why they are refused.
 fn list_words(i: usize, words: &[u64]) {
     let mut text = room();
-    match list(words, &mut text) {
-        Listed::Bytes(count) => say(&text[..count]),
-        Listed::WrongLength => refuse_at(i, 1, 0),
-        Listed::UnknownOpcode(word) => refuse_at(i, 16, word),
-        Listed::NoRoom => refuse_at(i, 15, 0),
+    let outcome = list(words, &mut text).outcome();
+    if outcome.number != 0 {
+        refuse_at(i, outcome.number, outcome.place);
+        return;
     }
+    let count = outcome.count;
+    say(&text[..count]);
 }

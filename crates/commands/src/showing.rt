@@ -1,6 +1,6 @@
 // The command `show`: a saved record by its fields.
 use console::say;
-use memories::load_record;
+use memories::load_record_at;
 use outputs::put_record;
 
 // Room for the text of a record.
@@ -8,7 +8,7 @@ const ROOM: usize = 768;
 
 // Prints the saved record that an argument names.
 pub fn show_record(i: usize) {
-    let read = load_record(i);
+    let read = load_record_at(i);
     if !read.is_read {
         return;
     }

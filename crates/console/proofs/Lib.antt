@@ -1,3 +1,4 @@
+pub mod AppendLaws
 pub mod LineLaws
 pub mod ReadLaws
 pub mod WritingLaws

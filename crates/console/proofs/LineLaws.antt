@@ -1,20 +1,24 @@
 -- The line of a refusal, as the code lays its pieces, and how long they are. Assumes nothing.
 use Prim.Native.Nat.{ℕ, _+_, _^_, _≤_, _<_}
-use mathlib.Core.Path.{_≡_, sym, ap}
-use mathlib.Core.Bool.{false}
+use mathlib.Core.Path.{_≡_, refl, sym, ap}
+use mathlib.Core.Bool.{true, false}
 use mathlib.Core.List.{List, [], _++_}
 use native.Mathlib.Nat.{add-zero}
 use native.Mathlib.Omega.{arith}
-use lib.ListN.{length, List·getD-eq-default, set, length-append}
-use lib.Dec.{eqb}
+use lib.ListN.{length, getD, take, List·getD-eq-default, set, length-append}
+use lib.Dec.{eqb, leb}
+use borrow.Author.Tests.{eqb-true, leb-true}
 use Rattle.text.specs.Bytes.{bytes}
 use Rattle.text.specs.Lines.{LF}
 use Rattle.text.specs.Numerals.{digitCount, decimal}
 use Rattle.text.specs.Place.{put}
+use Rattle.text.specs.Same.{same}
 use Rattle.console.specs.Refusals.{sentence, sentences, hasLine, counted, placeText, refusalLine}
 use Rattle.text.proofs.DecimalLaws.{length-decimal, count-le}
 use Rattle.text.proofs.PieceLaws.{more}
 use Rattle.text.proofs.PutLaws.{put-nil, put-one}
+use Rattle.text.proofs.SameLaws.{table-rule}
+use Rattle.text.proofs.Truth.{allBelow, below}
 
 -- ---- a count
 
@@ -39,13 +43,26 @@ counted-laid kind n at p q d e f g pe qe first second third =
 pub nothing-laid : (out : List ℕ) (at : ℕ) (words : List ℕ) → words ≡ [] → (out ≡ put out at words) × (at ≡ at + length words)
 nothing-laid out at words e = rw e (sym (put-nil out at), sym (add-zero at))
 
-pub none-first : (n : ℕ) → n < 1 → sentence n ≡ []
-unfolding sentence
-none-first n h = let first : n ≡ 0 = omega arith in ap sentence first
-
 pub none-above : (n : ℕ) → 17 ≤ n → sentence n ≡ []
 unfolding sentence sentences
 none-above n h = List·getD-eq-default sentences [] h
+
+-- The table of the sentences, by tests computed over it: their lengths, ..
+pub lengths-rule : (lengths : List ℕ) → allBelow (λ k. eqb (getD lengths k 0) (length (sentence k))) 17 ≡ true → (n : ℕ) → n < 17 → getD lengths n 0 ≡ length (sentence n)
+lengths-rule lengths e n h = eqb-true _ _ (below (λ k. eqb (getD lengths k 0) (length (sentence k))) 17 e n h)
+
+pub sentence-most : (n : ℕ) → n < 17 → length (sentence n) ≤ 111
+unfolding sentence
+sentence-most n h = leb-true _ _ (below (λ k. leb (length (sentence k)) 111) 17 refl n h)
+
+-- .. and their bytes, each filled up to 111.
+module _ (rows : List (List ℕ)) (d : List ℕ) where
+  pub rows-length : allBelow (λ k. eqb (length (getD rows k d)) 111) 17 ≡ true → (n : ℕ) → n < 17 → length (getD rows n d) ≡ 111
+  rows-length e n h = eqb-true _ _ (below (λ k. eqb (length (getD rows k d)) 111) 17 e n h)
+
+  pub rows-rule : allBelow (λ k. same (take (length (sentence k)) (getD rows k d)) (sentence k)) 17 ≡ true → (n : ℕ) → n < 17
+      → take (length (sentence n)) (getD rows n d) ≡ sentence n
+  rows-rule e n h = table-rule (λ k. take (length (sentence k)) (getD rows k d)) sentence 17 e n h
 
 -- ---- the place
 

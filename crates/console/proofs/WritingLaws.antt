@@ -5,7 +5,7 @@ use mathlib.Core.Logic.{_⊎_, inl, inr, ⊎-elim}
 use lib.IntN.{ℤ, pos}
 use lib.Signed.{ltZ}
 use Rattle.console.specs.declared.Writing.{Writing}
-use Rattle.console.specs.Writings.{noFile, isNoFile, through, Begun, BegunNew, Ended, Kept}
+use Rattle.console.specs.Writings.{noFile, isNoFile, through, Begun, BegunNew, Ended, Committed}
 
 -- ---- begun
 
@@ -28,14 +28,14 @@ through-begun w fd e = rw e (go (ltZ fd (pos 0)) refl)
 pub ended-begun : (w r : Writing) → Ended w r → Begun w → Begun r
 ended-begun w r ended begun = ⊎-elim (λ e. rw e begun) (λ e. none-begun r e .begun) ended
 
--- ---- kept
+-- ---- committed
 
 module _ (w : Writing) where
-  pub none-kept : isNoFile w ≡ true → Kept w false
-  none-kept e = record { written = λ n. absurd (false≢true n); in-place = λ _. rw e }
+  pub none-committed : isNoFile w ≡ true → Committed w false
+  none-committed e = record { written = λ n. absurd (false≢true n); in-place = λ _. rw e }
 
-  pub old-kept : isNoFile w ≡ false → Kept w true
-  old-kept e = record { written = λ _. e; in-place = λ _. rw e }
+  pub old-committed : isNoFile w ≡ false → Committed w true
+  old-committed e = record { written = λ _. e; in-place = λ _. rw e }
 
-  pub new-kept : isNoFile w ≡ false → w .«is_new» ≡ true → (r : Bool) → Kept w r
-  new-kept e new r = record { written = λ _. e; in-place = λ old. absurd (true≢false (sym new ∙ old)) }
+  pub new-committed : isNoFile w ≡ false → w .«is_new» ≡ true → (r : Bool) → Committed w r
+  new-committed e new r = record { written = λ _. e; in-place = λ old. absurd (true≢false (sym new ∙ old)) }

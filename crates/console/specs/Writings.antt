@@ -14,7 +14,7 @@ noFile = record { fd = negsuc 0; «is_new» = false }
 abbrev pub isNoFile : Writing → Bool
 isNoFile w = ltZ (w .fd) (pos 0)
 
--- What stands at a path and is kept, with this descriptor.
+-- What stands at a path and stays there, with this descriptor.
 unfoldable pub through : ℤ → Writing
 through fd = cond (ltZ fd (pos 0)) noFile (record { fd = fd; «is_new» = false })
 
@@ -32,6 +32,6 @@ abbrev pub Ended : Writing → Writing → Type 0
 Ended w r = (r ≡ w) ⊎ (r ≡ noFile)
 
 -- Whether a file is in its place: never one that can't be written, always one that can be written and is not new. Of a new file the operating system decides.
-pub record Kept (w : Writing) (r : Bool) : Type 0 where
+pub record Committed (w : Writing) (r : Bool) : Type 0 where
   pub written : r ≡ true → isNoFile w ≡ false
   pub in-place : w .«is_new» ≡ false → r ≡ not (isNoFile w)

@@ -1,6 +1,6 @@
 // Names of files in the program's arguments.
 use crate::output::append;
-use crate::output::append_number;
+use crate::output::put_number;
 use crate::output::say;
 ghost use mathlib.Core.Path.{_≡_};
 ghost use mathlib.Core.Bool.{false};
@@ -32,7 +32,7 @@ fn is_name(i: usize) -> bool {
 fn say_no_name(i: usize) {
     let mut line = [0u8; 64];
     let number_at = append(&mut line, 0, b"argument ");
-    let words_at = append_number(&mut line, number_at, i);
+    let words_at = put_number(&mut line, number_at, i);
     let end = append(&mut line, words_at, b" is empty or too long\n");
     say(&line[..end]);
 }

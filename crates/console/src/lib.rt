@@ -1,5 +1,5 @@
 // What programs at a command line share: files read whole, files written beside the old ones and put in their places, the names of files in
-// arguments, and lines on standard output, among them one for each of document 01's refusals. A program calls `hold_standard` first, so that no
+// arguments, and lines on standard output, among them one for each of document 01's refusals. A program calls `open_missing_standard_streams` first, so that no
 // line lands in a file.
 mod arguments;
 mod more;
@@ -16,21 +16,21 @@ pub use arguments::are_names;
 pub use more::begin_more;
 pub use output::LINE;
 pub use output::append;
-pub use output::append_number;
+pub use output::put_number;
 pub use output::say;
 pub use output::say_of;
 pub use output::tell;
 pub use path::is_missing;
 pub use read::read_file;
 pub use refusal::say_refusal;
-pub use standard::hold_standard;
+pub use standard::open_missing_standard_streams;
 pub use write::abandon_file;
 pub use write::begin_file;
+pub use write::commit_file;
 pub use write::drop_file;
 pub use write::end_file;
 pub use write::is_no_file;
-pub use write::keep_file;
-pub use write::stage_file;
+pub use write::write_new_file;
 
 // A file that is being written.
 pub struct Writing {

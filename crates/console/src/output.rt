@@ -4,9 +4,11 @@ use libc::STDOUT_FILENO;
 use text::decimal::digit_count;
 use text::decimal::put_decimal;
 use text::place::put_bytes;
+ghost use mathlib.Core.List.{[], _∷_};
 ghost use Prim.Native.Nat.{_≤_};
 ghost use lib.ListN.{length};
-ghost use Rattle.io.specs.Counts.{Counts};
+ghost use Rattle.text.specs.Numerals.{decimal};
+ghost use Rattle.console.specs.Line.{Laid};
 
 // Room for a line with three names of files.
 pub const LINE: usize = 16_384;
@@ -34,7 +36,7 @@ pub fn say_of(file: &[u8], words: &[u8]) {
 // Lays bytes at a place of a line and returns the place after them; where there is no room for them, lays none.
 pub fn append(line: &mut [u8], at: usize, bytes: &[u8]) -> usize
     requires { ⌜ at ≤ length (now line) ⌝ }
-    ensures { λ r. ⌜ Counts r (now (line .exit)) ⌝ }
+    ensures { λ r. ⌜ Laid (now (bytes .entry) ∷ []) (now (line .entry)) at (now (line .exit)) r ⌝ }
 {
     if line.len() - at < bytes.len() {
         return at;
@@ -42,10 +44,10 @@ pub fn append(line: &mut [u8], at: usize, bytes: &[u8]) -> usize
     put_bytes(line, at, bytes)
 }
 
-// Lays a number in decimal, in the same way.
-pub fn append_number(line: &mut [u8], at: usize, v: usize) -> usize
+// Lays a number in decimal; where there is no room for it, lays nothing.
+pub fn put_number(line: &mut [u8], at: usize, v: usize) -> usize
     requires { ⌜ at ≤ length (now line) ⌝ }
-    ensures { λ r. ⌜ Counts r (now (line .exit)) ⌝ }
+    ensures { λ r. ⌜ Laid (decimal v ∷ []) (now (line .entry)) at (now (line .exit)) r ⌝ }
 {
     if line.len() - at < digit_count(v as u64) {
         return at;

@@ -5,7 +5,9 @@ ghost use mathlib.Core.Path.{_≡_};
 ghost use mathlib.Core.Bool.{true};
 ghost use Prim.Native.Nat.{_<_};
 ghost use lib.ListN.{length};
+ghost use Rattle.text.specs.Place.{put};
 ghost use Rattle.io.specs.Counts.{Counts};
+ghost use Rattle.console.specs.Paths.{newPath};
 
 // Whether a path names a link, and not what the link leads to. One that is too long for a path names none.
 pub fn is_link(path: &[u8]) -> bool
@@ -37,9 +39,9 @@ pub fn is_missing(path: &[u8]) -> bool
     false
 }
 
-// Lays a path and `.new` at the front and returns the length of both; 0 where they are too long for a path.
+// Lays the path of the new file beside the old one at the front and returns its length; 0 where it is too long for a path.
 pub fn put_new_path(path: &[u8], out: &mut [u8]) -> usize
-    ensures { λ r. ⌜ Counts r (now (out .exit)) ⌝ }
+    ensures { λ r. ⌜ (now (out .exit) ≡ put (now (out .entry)) 0 (newPath (length (now (out .entry))) (now (path .entry)))) × (r ≡ length (newPath (length (now (out .entry))) (now (path .entry)))) × Counts r (now (out .exit)) ⌝ }
 {
     if out.len() < 4 {
         return 0;

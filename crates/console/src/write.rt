@@ -5,11 +5,11 @@ use crate::old::old_file;
 use crate::output::say_of;
 use crate::path::put_new_path;
 ghost use mathlib.Core.Path.{_≡_};
-ghost use Rattle.console.specs.Writings.{noFile, isNoFile, through, Begun, BegunNew, Ended, Kept};
+ghost use Rattle.console.specs.Writings.{noFile, isNoFile, through, Begun, BegunNew, Ended, Committed};
 
-// Writes all of a file, which `keep_file` puts into its place, or `drop_file` removes. Where it can't be written, the old one stays, standard error
+// Writes all of a new file, which `commit_file` puts into the place of the old one, or `drop_file` removes. Where it can't be written, the old one stays, standard error
 // tells why and standard output that it is not written.
-pub fn stage_file(path: &[u8], bytes: &[u8]) -> Writing
+pub fn write_new_file(path: &[u8], bytes: &[u8]) -> Writing
     ensures { λ r. ⌜ Begun r ⌝ }
 {
     let w = begin_file(path);
@@ -35,7 +35,7 @@ pub fn begin_file(path: &[u8]) -> Writing
     }
 }
 
-// Goes on with what stands at a path, and keeps it: a link, a device or a pipe.
+// Goes on with what stands at a path, which stays there: a link, a device or a pipe.
 pub fn begin_through(path: &[u8], fd: i32) -> Writing
     ensures { λ r. ⌜ r ≡ through fd ⌝ }
 {
@@ -99,8 +99,8 @@ pub fn abandon_file(path: &[u8], w: Writing) {
 }
 
 // Puts a new file that is closed into the place of the old one, and answers whether the file is there then.
-pub fn keep_file(path: &[u8], w: Writing) -> bool
-    ensures { λ r. ⌜ Kept w r ⌝ }
+pub fn commit_file(path: &[u8], w: Writing) -> bool
+    ensures { λ r. ⌜ Committed w r ⌝ }
 {
     if is_no_file(w) {
         return false;

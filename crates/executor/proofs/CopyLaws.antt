@@ -8,7 +8,7 @@ use lib.Dec.{eqb, leb}
 use lib.ListN.{length, getD, take, drop, length-take, length-drop}
 use lib.Seq.{sets-eq}
 use borrow.Author.Tests.{leb-true}
-use borrow.Rule.Slice.PartMut.{putMid, post-is}
+use borrow.Rule.Slice.PartMut.{midOf, putMid, post-is, put-same}
 use Rattle.text.specs.Place.{put}
 use Rattle.isa.specs.Registers.{disksector, diskbuffer}
 use Rattle.machine.specs.declared.Core.{Core}
@@ -16,13 +16,13 @@ use Rattle.executor.specs.Lent.{packed}
 use Rattle.machine.specs.Execution.{isReadOrWrite, copied}
 
 -- A part of a list that comes back as other numbers, as many.
-pub put-part : (d ys : List ℕ) (at n : ℕ) → length ys ≡ n → at + n ≤ length d → putMid at (at + n - at) d ys ≡ put d at ys
+put-part : (d ys : List ℕ) (at n : ℕ) → length ys ≡ n → at + n ≤ length d → putMid at (at + n - at) d ys ≡ put d at ys
 unfolding put
 put-part d ys at n e h =
     ap (λ (z : List ℕ). take at d ++ (ys ++ z)) (post-is at (at + n) d (omega arith)) ∙ rw (← e, ← append-assoc) (sym (sets-eq ys d at (omega arith)))
 
 -- The part that came back is a part of another list.
-pub part-copied : (d s ys : List ℕ) (at from n : ℕ) → at + n ≤ length d → from + n ≤ length s → ys ≡ take (from + n - from) (drop from s)
+part-copied : (d s ys : List ℕ) (at from n : ℕ) → at + n ≤ length d → from + n ≤ length s → ys ≡ take (from + n - from) (drop from s)
     → putMid at (at + n - at) d ys ≡ put d at (take n (drop from s))
 part-copied d s ys at from n h k e =
     let count : from + n - from ≡ n = omega arith in
@@ -41,19 +41,29 @@ no-command low one two = go (leb 1 low) refl (leb low 2) refl
     go true e false q = refl
     go false e b q = refl
 
--- The memories after the copy, each by itself, are those of the machine after it.
-pub both-copied : (low : ℕ) (c : Core) (regs io memory disk frame memory-after disk-after : List ℕ)
-    → memory-after ≡ cond (eqb low 1) (put memory (getD io diskbuffer 0) (take 128 (drop (128 * getD io disksector 0) disk))) memory
-    → disk-after ≡ cond (eqb low 1) disk (put disk (128 * getD io disksector 0) (take 128 (drop (getD io diskbuffer 0) memory)))
-    → packed c regs io memory-after disk-after frame ≡ copied low (packed c regs io memory disk frame)
-both-copied low c regs io memory disk frame memory-after disk-after e q = rw (e, q) (go (eqb low 1))
+-- A part of the data memory and a sector after the copy, put back, are in the memories of the machine after it.
+pub both-copied : (low : ℕ) (c : Core) (regs io memory disk frame part words : List ℕ)
+    → (let b = getD io diskbuffer 0 in let s = 128 * getD io disksector 0 in
+    b + 128 ≤ length memory → s + 128 ≤ length disk
+    → part ≡ cond (eqb low 1) (midOf s (s + 128 - s) disk) (midOf b (b + 128 - b) memory)
+    → words ≡ cond (eqb low 1) (midOf s (s + 128 - s) disk) (midOf b (b + 128 - b) memory)
+    → packed c regs io (putMid b (b + 128 - b) memory part) (putMid s (s + 128 - s) disk words) frame ≡ copied low (packed c regs io memory disk frame))
+both-copied low c regs io memory disk frame part words h k e q = rw (e, q) (go (eqb low 1))
   where
-    a : List ℕ
-    a = put memory (getD io diskbuffer 0) (take 128 (drop (128 * getD io disksector 0) disk))
+    b : ℕ
+    b = getD io diskbuffer 0
 
-    b : List ℕ
-    b = put disk (128 * getD io disksector 0) (take 128 (drop (getD io diskbuffer 0) memory))
+    s : ℕ
+    s = 128 * getD io disksector 0
 
-    go : (t : Bool) → packed c regs io (cond t a memory) (cond t disk b) frame ≡ cond t (packed c regs io a disk frame) (packed c regs io memory b frame)
-    go true = refl
-    go false = refl
+    one : List ℕ
+    one = midOf b (b + 128 - b) memory
+
+    other : List ℕ
+    other = midOf s (s + 128 - s) disk
+
+    go : (t : Bool)
+        → packed c regs io (putMid b (b + 128 - b) memory (cond t other one)) (putMid s (s + 128 - s) disk (cond t other one)) frame
+        ≡ cond t (packed c regs io (put memory b (take 128 (drop s disk))) disk frame) (packed c regs io memory (put disk s (take 128 (drop b memory))) frame)
+    go true = rw (part-copied memory disk other b s 128 h k refl, put-same s (s + 128 - s) disk) refl
+    go false = rw (part-copied disk memory one s b 128 k h refl, put-same b (b + 128 - b) memory) refl

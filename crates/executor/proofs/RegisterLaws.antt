@@ -1,4 +1,4 @@
--- R0 to R15 in the code, and the text that is kept beside them. Assumes nothing.
+-- R0 to R15 in the code, and the text beside them. Assumes nothing.
 use Prim.Native.Nat.{ℕ, _+_, _-_, _*_, _≤_, _<_}
 use mathlib.Core.Path.{_≡_, refl, sym, _∙_, ap}
 use mathlib.Core.Bool.{Bool, true, false, cond}
@@ -15,12 +15,12 @@ use Rattle.trace.proofs.LengthLaws.{length-fields}
 use Rattle.trace.proofs.RegisterTextLaws.{text-set}
 use Rattle.machine.specs.declared.Core.{Core}
 use Rattle.machine.specs.State.{putRegister}
-use Rattle.executor.specs.Lent.{Kept, stored, packed}
+use Rattle.executor.specs.Lent.{HaveText, stored, packed}
 
 -- The text has 118 bytes.
-pub kept-length : {registers text : List ℕ} → Kept registers text → length text ≡ 118
+pub text-length : {registers text : List ℕ} → HaveText registers text → length text ≡ 118
 unfolding registersText
-kept-length {registers} {text} k =
+text-length {registers} {text} k =
     let sixteen = k .sixteen in
     rw (k .is) (simp (length-append, length-fields, length-drop) (omega arith))
 
@@ -31,9 +31,9 @@ drop-set registers n x low =
     ap (λ (i : ℕ). drop 3 (set registers i x)) from ∙ drop-set-add 3 registers (n - 3) x
 
 -- It is written, with its text.
-pub kept-written : (registers text after : List ℕ) (n x : ℕ) → 3 ≤ n → n < 16 → Kept registers text → after ≡ put text ((n - 3) * 9 + 1) (digits 16 8 x)
-    → (set registers n x ≡ stored n x registers) × Kept (set registers n x) after
-kept-written registers text after n x low high k laid =
+pub text-written : (registers text after : List ℕ) (n x : ℕ) → 3 ≤ n → n < 16 → HaveText registers text → after ≡ put text ((n - 3) * 9 + 1) (digits 16 8 x)
+    → (set registers n x ≡ stored n x registers) × HaveText (set registers n x) after
+text-written registers text after n x low high k laid =
     let sixteen = k .sixteen in
     let room : n - 3 < length (drop 3 registers) = rw length-drop (omega arith) in (
       rw (le-ltb n 3 low) refl,

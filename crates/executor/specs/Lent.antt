@@ -11,7 +11,7 @@ use Rattle.machine.specs.State.{Machine}
 use Rattle.machine.specs.Soundness.{FittingIo}
 
 -- R0 to R15, of which R0 is 0, and beside them the text of R3 to R15. R1 and R2 hold any words: each cycle sets them before they are read.
-pub record Kept (registers text : List ℕ) : Type 0 where
+pub record HaveText (registers text : List ℕ) : Type 0 where
   pub sixteen : length registers ≡ 16
   pub zero : getD registers 0 0 ≡ 0
   pub is : text ≡ registersText (drop 3 registers)

@@ -1,4 +1,4 @@
-// A disk command: its sector is copied whole.
+// A disk command: its sector is copied whole, to a part of the data memory or back.
 use crate::progress::end;
 use crate::progress::onward;
 use isa::io::DISKBUFFER;
@@ -10,10 +10,9 @@ use words::copies::copy_words;
 ghost use mathlib.Core.Path.{_≡_};
 ghost use mathlib.Core.Bool.{cond};
 ghost use mathlib.Core.List.{List};
-ghost use Prim.Native.Nat.{ℕ, _+_, _*_, _≤_, _<_};
+ghost use Prim.Native.Nat.{ℕ, _<_};
 ghost use lib.Dec.{eqb};
-ghost use lib.ListN.{length, getD, take, drop};
-ghost use Rattle.text.specs.Place.{put};
+ghost use lib.ListN.{length, getD};
 ghost use Rattle.isa.specs.Registers.{disksector};
 ghost use Rattle.machine.specs.Execution.{attempted, commanded};
 ghost use Rattle.executor.specs.Lent.{packed};
@@ -54,12 +53,14 @@ fn accept(c: Core, low: u32, io: &mut [u32; 23], memory: &mut [u32], disk: &mut 
     if LAST_BUFFER < buffer {
         return end(c, 5);
     }
-    copy_whole(
+    let buffer_start = buffer as usize;
+    let buffer_end = buffer_start + SECTOR;
+    let sector_start = SECTOR * io[DISKSECTOR] as usize;
+    let sector_end = sector_start + SECTOR;
+    copy_sector(
         low,
-        buffer as usize,
-        SECTOR * io[DISKSECTOR] as usize,
-        memory,
-        disk,
+        &mut memory[buffer_start..buffer_end],
+        &mut disk[sector_start..sector_end],
     );
     io[DISKCMD] = low;
     io[DISKSTATUS] = 1;
@@ -72,22 +73,14 @@ fn accept(c: Core, low: u32, io: &mut [u32; 23], memory: &mut [u32], disk: &mut 
     })
 }
 
-// The copy between the data memory at `buffer` and the disk at `from`.
-fn copy_whole(low: u32, buffer: usize, from: usize, memory: &mut [u32], disk: &mut [u32])
-    requires { ⌜ (buffer + 128 ≤ length (now memory)) × (from + 128 ≤ length (now disk)) ⌝ }
-    ensures { λ _. ⌜ (now (memory .exit) ≡ cond (eqb low 1) (put (now (memory .entry)) buffer (take 128 (drop from (now (disk .entry))))) (now (memory .entry))) × (now (disk .exit) ≡ cond (eqb low 1) (now (disk .entry)) (put (now (disk .entry)) from (take 128 (drop buffer (now (memory .entry)))))) ⌝ }
+// Copies a sector to a part of the data memory for a read, 1, or back for a write, 2.
+fn copy_sector(low: u32, part: &mut [u32], sector: &mut [u32])
+    requires { ⌜ length (now part) ≡ length (now sector) ⌝ }
+    ensures { λ _. ⌜ (now (part .exit) ≡ cond (eqb low 1) (now (sector .entry)) (now (part .entry))) × (now (sector .exit) ≡ cond (eqb low 1) (now (sector .entry)) (now (part .entry))) ⌝ }
 {
     if low == 1 {
-        copy_sector(memory, buffer, disk, from);
+        copy_words(part, sector);
         return;
     }
-    copy_sector(disk, from, memory, buffer);
-}
-
-// Copies the 128 words of `source` at `from` to `target` at `at`.
-fn copy_sector(target: &mut [u32], at: usize, source: &[u32], from: usize)
-    requires { ⌜ (at + 128 ≤ length (now target)) × (from + 128 ≤ length (now source)) ⌝ }
-    ensures { λ _. ⌜ now (target .exit) ≡ put (now (target .entry)) at (take 128 (drop from (now (source .entry)))) ⌝ }
-{
-    copy_words(&mut target[at..at + SECTOR], &source[from..from + SECTOR]);
+    copy_words(sector, part);
 }

@@ -15,7 +15,7 @@ ghost use Prim.Native.Nat.{_<_};
 ghost use Rattle.text.specs.Numerals.{HexWords};
 ghost use Rattle.isa.specs.Operations.{operationOf};
 ghost use Rattle.machine.specs.Execution.{executed};
-ghost use Rattle.executor.specs.Lent.{packed, Kept, Ready};
+ghost use Rattle.executor.specs.Lent.{packed, HaveText, Ready};
 
 // Executes an instruction on its operands.
 pub fn execute(
@@ -30,8 +30,8 @@ pub fn execute(
     frame: &mut [u8],
     table: &[u64; 1024],
 ) -> Core
-    requires { ⌜ (o .target < 16) × (Kept (now regs) (now text) × (HexWords (now table) × Ready (now io) (now memory) (now disk) (now frame))) ⌝ }
-    ensures { λ r. ⌜ (packed r (now (regs .exit)) (now (io .exit)) (now (memory .exit)) (now (disk .exit)) (now (frame .exit)) ≡ executed (operationOf op) o (packed c (now (regs .entry)) (now (io .entry)) (now (memory .entry)) (now (disk .entry)) (now (frame .entry)))) × Kept (now (regs .exit)) (now (text .exit)) ⌝ }
+    requires { ⌜ (o .target < 16) × (HaveText (now regs) (now text) × (HexWords (now table) × Ready (now io) (now memory) (now disk) (now frame))) ⌝ }
+    ensures { λ r. ⌜ (packed r (now (regs .exit)) (now (io .exit)) (now (memory .exit)) (now (disk .exit)) (now (frame .exit)) ≡ executed (operationOf op) o (packed c (now (regs .entry)) (now (io .entry)) (now (memory .entry)) (now (disk .entry)) (now (frame .entry)))) × HaveText (now (regs .exit)) (now (text .exit)) ⌝ }
 {
     match op {
         0..=8 => calculation(op, c, o, regs, text, table),
@@ -43,6 +43,6 @@ pub fn execute(
         19 => input(c, o, regs, text, io, table),
         20 => output(c, o, io, memory, disk, frame),
         21 => end(c, 1),
-        _ => end(c, 2),
+        22..=0xFFFF_FFFF => end(c, 2),
     }
 }

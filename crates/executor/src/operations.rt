@@ -18,7 +18,7 @@ ghost use lib.ListN.{length};
 ghost use Rattle.text.specs.Numerals.{HexWords};
 ghost use Rattle.isa.specs.Operations.{operationOf, jal, lw, sw, reti, input as inputOperation};
 ghost use Rattle.machine.specs.Execution.{executed};
-ghost use Rattle.executor.specs.Lent.{packed, Kept};
+ghost use Rattle.executor.specs.Lent.{packed, HaveText};
 
 // The size of the data memory.
 const MEMORY: u32 = 4096;
@@ -32,8 +32,8 @@ pub fn calculation(
     text: &mut [u8; 118],
     table: &[u64; 1024],
 ) -> Core
-    requires { ⌜ (op < 9) × ((o .target < 16) × (Kept (now regs) (now text) × HexWords (now table))) ⌝ }
-    ensures { λ r. ⌜ ((io memory disk frame : List ℕ) → packed r (now (regs .exit)) io memory disk frame ≡ executed (operationOf op) o (packed c (now (regs .entry)) io memory disk frame)) × Kept (now (regs .exit)) (now (text .exit)) ⌝ }
+    requires { ⌜ (op < 9) × ((o .target < 16) × (HaveText (now regs) (now text) × HexWords (now table))) ⌝ }
+    ensures { λ r. ⌜ ((io memory disk frame : List ℕ) → packed r (now (regs .exit)) io memory disk frame ≡ executed (operationOf op) o (packed c (now (regs .entry)) io memory disk frame)) × HaveText (now (regs .exit)) (now (text .exit)) ⌝ }
 {
     put_register(regs, text, o.target, calculate(op, o.rs, o.rt, o.rm), table);
     onward(c)
@@ -58,8 +58,8 @@ pub fn link(
     text: &mut [u8; 118],
     table: &[u64; 1024],
 ) -> Core
-    requires { ⌜ (o .target < 16) × (Kept (now regs) (now text) × HexWords (now table)) ⌝ }
-    ensures { λ r. ⌜ ((io memory disk frame : List ℕ) → packed r (now (regs .exit)) io memory disk frame ≡ executed jal o (packed c (now (regs .entry)) io memory disk frame)) × Kept (now (regs .exit)) (now (text .exit)) ⌝ }
+    requires { ⌜ (o .target < 16) × (HaveText (now regs) (now text) × HexWords (now table)) ⌝ }
+    ensures { λ r. ⌜ ((io memory disk frame : List ℕ) → packed r (now (regs .exit)) io memory disk frame ≡ executed jal o (packed c (now (regs .entry)) io memory disk frame)) × HaveText (now (regs .exit)) (now (text .exit)) ⌝ }
 {
     put_register(regs, text, o.target, next(c), table);
     jump(c, o.rm)
@@ -74,8 +74,8 @@ pub fn load(
     memory: &[u32],
     table: &[u64; 1024],
 ) -> Core
-    requires { ⌜ (o .target < 16) × (Kept (now regs) (now text) × (HexWords (now table) × (length (now memory) ≡ 4096))) ⌝ }
-    ensures { λ r. ⌜ ((io disk frame : List ℕ) → packed r (now (regs .exit)) io (now (memory .entry)) disk frame ≡ executed lw o (packed c (now (regs .entry)) io (now (memory .entry)) disk frame)) × Kept (now (regs .exit)) (now (text .exit)) ⌝ }
+    requires { ⌜ (o .target < 16) × (HaveText (now regs) (now text) × (HexWords (now table) × (length (now memory) ≡ 4096))) ⌝ }
+    ensures { λ r. ⌜ ((io disk frame : List ℕ) → packed r (now (regs .exit)) io (now (memory .entry)) disk frame ≡ executed lw o (packed c (now (regs .entry)) io (now (memory .entry)) disk frame)) × HaveText (now (regs .exit)) (now (text .exit)) ⌝ }
 {
     let a = plus(o.rs, o.rt);
     if MEMORY <= a {
@@ -120,8 +120,8 @@ pub fn input(
     io: &[u32; 23],
     table: &[u64; 1024],
 ) -> Core
-    requires { ⌜ (o .target < 16) × (Kept (now regs) (now text) × HexWords (now table)) ⌝ }
-    ensures { λ r. ⌜ ((memory disk frame : List ℕ) → packed r (now (regs .exit)) (now (io .entry)) memory disk frame ≡ executed inputOperation o (packed c (now (regs .entry)) (now (io .entry)) memory disk frame)) × Kept (now (regs .exit)) (now (text .exit)) ⌝ }
+    requires { ⌜ (o .target < 16) × (HaveText (now regs) (now text) × HexWords (now table)) ⌝ }
+    ensures { λ r. ⌜ ((memory disk frame : List ℕ) → packed r (now (regs .exit)) (now (io .entry)) memory disk frame ≡ executed inputOperation o (packed c (now (regs .entry)) (now (io .entry)) memory disk frame)) × HaveText (now (regs .exit)) (now (text .exit)) ⌝ }
 {
     let a = plus(o.rs, o.rt);
     if is_listed(a) {

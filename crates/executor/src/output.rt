@@ -5,7 +5,7 @@ use crate::progress::onward;
 use isa::io::MONITORADDR;
 use isa::io::MONITORDATA;
 use isa::io::is_listed;
-use isa::io::keep;
+use isa::io::low_bits;
 use machine::Core;
 use machine::Operands;
 use words::arithmetic::plus;
@@ -61,7 +61,7 @@ fn put_io(
             onward(c)
         }
         _ => {
-            io[a as usize] = keep(a, x);
+            io[a as usize] = low_bits(a, x);
             onward(c)
         }
     }

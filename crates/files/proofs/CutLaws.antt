@@ -10,13 +10,14 @@ use lib.ListN.{length, take, drop, length-drop}
 use lib.Seq.{take-all, take-add, take-take, drop-at, getD-take, length-take-le}
 use lib.Dec.{leb}
 use borrow.Author.Tests.{lt-ltb, leb-true, leb-false, ne-eqb}
-use Rattle.text.specs.Questions.{Told, accepted, firstBad}
+use Rattle.text.specs.declared.Outcome.{Outcome}
+use Rattle.text.specs.Questions.{accepted, firstBad}
 use Rattle.text.specs.Numerals.{allDigits}
 use Rattle.text.specs.Lines.{lines, firstLine, endsLine}
 use Rattle.text.proofs.QuestionLaws.{first-yes}
 use Rattle.files.specs.declared.FileRead.{FileRead}
 use Rattle.files.specs.Sizes.{imageWords, imageDigits, isImageLength}
-use Rattle.files.specs.MemoryFile.{isWord, wordQuestions, linesTold, readTold}
+use Rattle.files.specs.MemoryFile.{isWord, wordQuestions, linesOutcome, readOutcome}
 use Rattle.files.specs.Promises.{MemoryRead}
 use Rattle.files.proofs.CheckLaws.{word-long, word-front, check-full, check-bad, check-good, good-room, good-next}
 
@@ -47,11 +48,11 @@ drop-cut at m s h long =
 
 module _ (k room : ℕ) (text : List ℕ) where
   -- What is told of the lines of s, before which i lines stand.
-  abbrev toldFrom : ℕ → List ℕ → Told
-  toldFrom i s = firstBad (wordQuestions k room) i (lines s) (accepted 0)
+  abbrev outcomeFrom : ℕ → List ℕ → Outcome
+  outcomeFrom i s = firstBad (wordQuestions k room) i (lines s) (accepted 0)
 
   -- From the place `at` on, before which i lines stand, there being words for j more: a text that goes on after their lines is refused.
-  never-good : (j i at : ℕ) → i + j ≡ room → at + j * (k + 1) < length text → toldFrom i (drop at text) .number ≡ 0 → ⊥
+  never-good : (j i at : ℕ) → i + j ≡ room → at + j * (k + 1) < length text → outcomeFrom i (drop at text) .number ≡ 0 → ⊥
   never-good zero i at e h good = let left = good-room k room text at i (omega arith) good in omega arith
   never-good (suc j) i at e h good =
       let one = suc-mul j (k + 1) in
@@ -70,52 +71,52 @@ module _ (k room : ℕ) (text : List ℕ) where
 
     -- One line: where it is good, what is told of the lines after it is told.
     same-line : (i at : ℕ) → i < room → at + k < m
-        → toldFrom (i + 1) (drop (at + (k + 1)) (take m text)) ≡ toldFrom (i + 1) (drop (at + (k + 1)) text)
-        → toldFrom i (drop at (take m text)) ≡ toldFrom i (drop at text)
+        → outcomeFrom (i + 1) (drop (at + (k + 1)) (take m text)) ≡ outcomeFrom (i + 1) (drop (at + (k + 1)) text)
+        → outcomeFrom i (drop at (take m text)) ≡ outcomeFrom i (drop at text)
     same-line i at left h rest = go (isWord k (firstLine (drop at text))) refl
       where
         inside : at < length (take m text)
         inside = rw size (omega arith)
 
-        go : (t : Bool) → isWord k (firstLine (drop at text)) ≡ t → toldFrom i (drop at (take m text)) ≡ toldFrom i (drop at text)
+        go : (t : Bool) → isWord k (firstLine (drop at text)) ≡ t → outcomeFrom i (drop at (take m text)) ≡ outcomeFrom i (drop at text)
         go true good =
             sym (check-good k room (take m text) at i inside left (same-word at h ∙ good)) ∙ rest ∙ check-good k room text at i (omega arith) left good
         go false bad =
             sym (check-bad k room (take m text) at i inside left (same-word at h ∙ bad)) ∙ check-bad k room text at i (omega arith) left bad
 
     -- All of them: past the last word any byte is refused.
-    same-told : (j i at : ℕ) → i + j ≡ room → at + j * (k + 1) < m → toldFrom i (drop at (take m text)) ≡ toldFrom i (drop at text)
-    same-told zero i at e h =
+    same-outcome : (j i at : ℕ) → i + j ≡ room → at + j * (k + 1) < m → outcomeFrom i (drop at (take m text)) ≡ outcomeFrom i (drop at text)
+    same-outcome zero i at e h =
         sym (check-full k room (take m text) at i (rw size (omega arith)) (omega arith)) ∙ check-full k room text at i (omega arith) (omega arith)
-    same-told (suc j) i at e h =
+    same-outcome (suc j) i at e h =
         let one = suc-mul j (k + 1) in
-        same-line i at (omega arith) (omega arith) (same-told j (i + 1) (at + (k + 1)) (omega arith) (omega arith))
+        same-line i at (omega arith) (omega arith) (same-outcome j (i + 1) (at + (k + 1)) (omega arith) (omega arith))
 
 -- ---- any text
 
 -- A text that is longer than the file of the memory is refused.
-pub long-refused : (k room : ℕ) (text : List ℕ) → room * (k + 1) < length text → linesTold k room text .number ≡ 0 → ⊥
-unfolding linesTold
+pub long-refused : (k room : ℕ) (text : List ℕ) → room * (k + 1) < length text → linesOutcome k room text .number ≡ 0 → ⊥
+unfolding linesOutcome
 long-refused k room text h good = never-good k room text room 0 0 (omega arith) (omega arith) good
 
 -- Of the lines of the cut the same is told; ..
-pub cut-told : (k room m : ℕ) (text : List ℕ) → room * (k + 1) < m → linesTold k room (take m text) ≡ linesTold k room text
-unfolding linesTold
-cut-told k room m text h = go (leb (length text) m) refl
+pub cut-outcome : (k room m : ℕ) (text : List ℕ) → room * (k + 1) < m → linesOutcome k room (take m text) ≡ linesOutcome k room text
+unfolding linesOutcome
+cut-outcome k room m text h = go (leb (length text) m) refl
   where
-    go : (t : Bool) → leb (length text) m ≡ t → linesTold k room (take m text) ≡ linesTold k room text
-    go true e = ap (linesTold k room) (take-all m text (leb-true (length text) m e))
-    go false e = same-told k room text m (leb-false (length text) m e) room 0 0 (omega arith) (omega arith)
+    go : (t : Bool) → leb (length text) m ≡ t → linesOutcome k room (take m text) ≡ linesOutcome k room text
+    go true e = ap (linesOutcome k room) (take-all m text (leb-true (length text) m e))
+    go false e = same-outcome k room text m (leb-false (length text) m e) room 0 0 (omega arith) (omega arith)
 
 module _ (k : ℕ) (isRight : ℕ → Bool) (m : ℕ) (text : List ℕ) where
   -- .. by a reader too, whose question 1 is of the memory alone.
-  pub cut-read-told : (room : ℕ) → room * (k + 1) < m → readTold k isRight room (take m text) ≡ readTold k isRight room text
-  unfolding readTold
-  cut-read-told room h = rw (cut-told k room m text h)
+  pub cut-read-outcome : (room : ℕ) → room * (k + 1) < m → readOutcome k isRight room (take m text) ≡ readOutcome k isRight room text
+  unfolding readOutcome
+  cut-read-outcome room h = rw (cut-outcome k room m text h)
 
   -- A text that is longer than the cut is refused, ..
-  cut-refused : (room : ℕ) → room * (k + 1) < m → m < length text → readTold k isRight room text .number ≡ 0 → ⊥
-  unfolding readTold
+  cut-refused : (room : ℕ) → room * (k + 1) < m → m < length text → readOutcome k isRight room text .number ≡ 0 → ⊥
+  unfolding readOutcome
   cut-refused room h long good = long-refused k room text (omega arith) (first-yes 1 0 (isRight room) _ (omega arith) good .1)
 
   -- .. so who reads the cut has read the text.
@@ -126,8 +127,8 @@ module _ (k : ℕ) (isRight : ℕ → Bool) (m : ℕ) (text : List ℕ) where
       go : (t : Bool) → leb (length text) m ≡ t → MemoryRead k isRight text memory r after
       go true e = rw (take-all m text (leb-true (length text) m e)) at p
       go false e =
-          let same = cut-read-told (length memory) h in
-          let refusal = ne-eqb (readTold k isRight (length memory) text .number) 0 (cut-refused (length memory) h (leb-false (length text) m e)) in
+          let same = cut-read-outcome (length memory) h in
+          let refusal = ne-eqb (readOutcome k isRight (length memory) text .number) 0 (cut-refused (length memory) h (leb-false (length text) m e)) in
           record { answer = p .answer ∙ same; words = rw (same, refusal) at (p .words) ∙ rw refusal }
 
 -- An instruction file: of 53,249 bytes or more.

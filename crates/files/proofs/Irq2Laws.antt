@@ -10,7 +10,8 @@ use lib.ListN.{length, getD, take, drop, set, drop-of-length-le}
 use lib.Seq.{drop-drop, getD-drop}
 use lib.Dec.{ltb, leb, leb·zero}
 use borrow.Author.Tests.{lt-ltb, le-ltb, le-leb, lt-leb, ltb-true, leb-true}
-use Rattle.text.specs.Questions.{Told, accepted, refused, firstNo, firstBad}
+use Rattle.text.specs.declared.Outcome.{Outcome}
+use Rattle.text.specs.Questions.{accepted, refused, firstNo, firstBad}
 use Rattle.text.specs.declared.Numeral.the-variants.{Value, NoNumeral}
 use Rattle.text.specs.Numerals.{allDigits, value, numeral}
 use Rattle.text.specs.Lines.{lines, firstLine}
@@ -20,7 +21,7 @@ use Rattle.text.proofs.DigitLaws.{number-yes, number-no, number-value}
 use Rattle.text.proofs.QuestionLaws.{first-yes}
 use Rattle.text.proofs.LineLaws.{lines-at}
 use Rattle.files.specs.Sizes.{cycleLimit}
-use Rattle.files.specs.Irq2File.{isCycle, lineCycle, risesAfter, rising, irq2Told, fileCycles, isAbove, cycleQuestions}
+use Rattle.files.specs.Irq2File.{isCycle, lineCycle, risesAfter, rising, irq2Outcome, fileCycles, isAbove, cycleQuestions}
 
 -- ---- one line
 
@@ -85,7 +86,7 @@ module _ (all : List (List ℕ)) (i : ℕ) (l : List ℕ) (ls : List (List ℕ))
   count-next = omega arith
 
 -- The lines of `text` from `at` on, i lines before them; the first of them ends at e.
-module _ (room : ℕ) (text : List ℕ) (at i e : ℕ) (h : at < length text) (q : e ≡ at + length (firstLine (drop at text))) (t : Told) where
+module _ (room : ℕ) (text : List ℕ) (at i e : ℕ) (h : at < length text) (q : e ≡ at + length (firstLine (drop at text))) (t : Outcome) where
   -- What is told of the lines from here on, of the line here, and from the next on.
   here : firstBad (cycleQuestions room (lines text)) i (lines (drop at text)) t
       ≡ firstNo (cycleQuestions room (lines text) i (take (e - at) (drop at text))) (i + 1) (firstBad (cycleQuestions room (lines text)) (i + 1) (lines (drop (e + 1) text)) t)
@@ -110,7 +111,7 @@ module _ (room : ℕ) (text : List ℕ) (at i e : ℕ) (h : at < length text) (q
 
 -- No line is left.
 module _ (room : ℕ) (text : List ℕ) (at i : ℕ) (h : length text ≤ at) where
-  pub cycle-end : (t : Told) → t ≡ firstBad (cycleQuestions room (lines text)) i (lines (drop at text)) t
+  pub cycle-end : (t : Outcome) → t ≡ firstBad (cycleQuestions room (lines text)) i (lines (drop at text)) t
   unfolding firstBad lines
   cycle-end t = rw (drop-of-length-le text h)
 
@@ -151,7 +152,7 @@ unfolding put lines
 cycles-end text m at i h = rw (drop-of-length-le text h)
 
 -- The cycles of a good file rise.
-rises-from : (room : ℕ) (t : Told) (all : List (List ℕ)) (j : ℕ) (ls : List (List ℕ)) → ls ≡ drop (suc j) all
+rises-from : (room : ℕ) (t : Outcome) (all : List (List ℕ)) (j : ℕ) (ls : List (List ℕ)) → ls ≡ drop (suc j) all
     → firstBad (cycleQuestions room all) (suc j) ls t .number ≡ 0 → risesAfter (value 10 (getD all j [])) (map (value 10) ls) ≡ true
 unfolding firstBad risesAfter
 rises-from room t all j [] h good = refl
@@ -162,8 +163,8 @@ rises-from room t all j (l ∷ ls) h good =
     let rest = rises-from room t all (suc j) ls (next-is all (suc j) l ls h ∙ rw add-one) (rw (← add-one (suc j)) (above .1)) in
     rw (above .0, ← line-is all (suc j) l ls h) rest
 
-pub irq2-rising : (room : ℕ) (text : List ℕ) → irq2Told room text .number ≡ 0 → rising (fileCycles text) ≡ true
-unfolding irq2Told rising firstBad
+pub irq2-rising : (room : ℕ) (text : List ℕ) → irq2Outcome room text .number ≡ 0 → rising (fileCycles text) ≡ true
+unfolding irq2Outcome rising firstBad
 irq2-rising room text good = go (lines text) good
   where
     go : (ls : List (List ℕ)) → firstBad (cycleQuestions room ls) 0 ls (accepted (length ls)) .number ≡ 0 → rising (map (value 10) ls) ≡ true

@@ -7,3 +7,5 @@ pub mod AnswerLaws
 pub mod Irq2Laws
 pub mod ReturnTrip
 pub mod CutLaws
+pub mod LoadedLaws
+pub mod CycleLaws

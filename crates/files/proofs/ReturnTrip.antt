@@ -12,7 +12,8 @@ use lib.ListN.{length, take, drop, replicate, length-map, take-append-drop}
 use lib.Seq.{take-append-seam, drop-append-seam, sets-eq, take-add}
 use lib.Dec.{ltb}
 use borrow.Author.Tests.{lt-ltb, le-leb, eq-eqb}
-use Rattle.text.specs.Questions.{Told, accepted, firstBad}
+use Rattle.text.specs.declared.Outcome.{Outcome}
+use Rattle.text.specs.Questions.{accepted, firstBad}
 use Rattle.text.specs.Numerals.{digits, value}
 use Rattle.text.specs.Lines.{lines, unlines}
 use Rattle.text.specs.Place.{put}
@@ -28,8 +29,8 @@ use Rattle.files.proofs.SizeLaws.{part-words, part-within, length-part,
 use Rattle.files.specs.declared.FileRead.{FileRead}
 use Rattle.files.specs.declared.Written.{Written}
 use Rattle.files.specs.Sizes.{imageWords, dataWords, frameBytes, sectorWords, imageDigits, wordDigits, frameDigits, isImageLength, isDataLength, isFrameLength, isPartLength, isDiskPart}
-use Rattle.files.specs.MemoryFile.{isWord, wordQuestions, linesTold, readTold, writeTold, fileWords, fileText, sectorsOf, low48, SameImage}
-use Rattle.files.specs.Answers.{fileReadTold, writtenTold}
+use Rattle.files.specs.MemoryFile.{isWord, wordQuestions, linesOutcome, readOutcome, writeOutcome, fileWords, fileText, sectorsOf, low48, SameImage}
+use Rattle.files.specs.Answers.{fileReadOutcome, writtenOutcome}
 use Rattle.files.specs.Promises.{MemoryRead, TextWritten}
 use Rattle.files.specs.declared.FileRead.the-variants as FileRead
 
@@ -43,7 +44,7 @@ written-word : (k w : ℕ) → isWord k (digits 16 k w) ≡ true
 written-word k w = rw (length-digits, eq-eqb k k refl, all-written 16 (omega arith) (omega arith) k w)
 
 -- Each of them is good where the memory has a word for it.
-written-good : (k room i : ℕ) (ws : List ℕ) (t : Told) → i + length ws ≤ room → firstBad (wordQuestions k room) i (map (digits 16 k) ws) t ≡ t
+written-good : (k room i : ℕ) (ws : List ℕ) (t : Outcome) → i + length ws ≤ room → firstBad (wordQuestions k room) i (map (digits 16 k) ws) t ≡ t
 unfolding firstBad
 written-good k room i [] t h = refl
 written-good k room i (w ∷ ws) t h = rw (lt-ltb i room (omega arith), written-word k w) (written-good k room (i + 1) ws t (omega arith))
@@ -56,27 +57,27 @@ written-values k (w ∷ ws) = rw (value-written 16 (omega arith) (omega arith) k
 
 module _ (k : ℕ) (m : List ℕ) where
   -- Writing succeeds where there is room, ..
-  pub text-written : (isRight : Bool) (room : ℕ) → isRight ≡ true → length (fileText k m) ≤ room → writeTold isRight (fileText k m) room ≡ accepted (length (fileText k m))
-  unfolding writeTold
+  pub text-written : (isRight : Bool) (room : ℕ) → isRight ≡ true → length (fileText k m) ≤ room → writeOutcome isRight (fileText k m) room ≡ accepted (length (fileText k m))
+  unfolding writeOutcome
   text-written isRight room right fits = rw (right, le-leb (length (fileText k m)) room fits)
 
   -- .. the text stands at the front, and what stood after it still does.
   pub writing : (isRight : Bool) (out : List ℕ) (w : Written) (sent : List ℕ) → isRight ≡ true → length (fileText k m) ≤ length out
       → TextWritten isRight (fileText k m) out w sent
-      → (writtenTold w ≡ accepted (length (fileText k m)))
+      → (writtenOutcome w ≡ accepted (length (fileText k m)))
       × (take (length (fileText k m)) sent ≡ fileText k m)
       × (drop (length (fileText k m)) sent ≡ drop (length (fileText k m)) out)
   writing isRight out w sent right room p =
-      let told = text-written isRight (length out) right room in
-      let front = rw told at (p .bytes) ∙ put-front out (fileText k m) room in (
-        p .answer ∙ told,
+      let outcome = text-written isRight (length out) right room in
+      let front = rw outcome at (p .bytes) ∙ put-front out (fileText k m) room in (
+        p .answer ∙ outcome,
         rw (front, take-append-seam),
         rw (front, drop-append-seam),
       )
 
   -- Reading the text succeeds, ..
-  pub text-read : (isRight : ℕ → Bool) (n : ℕ) → isRight n ≡ true → n ≡ length m → readTold k isRight n (fileText k m) ≡ accepted 0
-  unfolding readTold linesTold
+  pub text-read : (isRight : ℕ → Bool) (n : ℕ) → isRight n ≡ true → n ≡ length m → readOutcome k isRight n (fileText k m) ≡ accepted 0
+  unfolding readOutcome linesOutcome
   text-read isRight n right size =
       let good = ap (λ (ls : List (List ℕ)). firstBad (wordQuestions k n) 0 ls (accepted 0)) (text-lines k m)
       ∙ written-good k n 0 m (accepted 0) (rw (zero-add, size) (le-refl (length m))) in
@@ -92,17 +93,17 @@ module _ (k : ℕ) (m : List ℕ) where
   -- .. whatever the slice held.
   pub reading : (isRight : ℕ → Bool) (d : List ℕ) (r : FileRead) (after : List ℕ) → isRight (length d) ≡ true → length d ≡ length m
       → MemoryRead k isRight (fileText k m) d r after
-      → (fileReadTold r ≡ accepted 0) × (after ≡ map (λ word. word % 16 ^ k) m)
+      → (fileReadOutcome r ≡ accepted 0) × (after ≡ map (λ word. word % 16 ^ k) m)
   reading isRight d r after right size p =
-      let told = text-read isRight (length d) right size in
-      (p .answer ∙ told, rw told at (p .words) ∙ all-words (length d) size)
+      let outcome = text-read isRight (length d) right size in
+      (p .answer ∙ outcome, rw outcome at (p .words) ∙ all-words (length d) size)
 
   -- Both: the text that was written is read.
   pub return-trip : (isRight : Bool) (isRight′ : ℕ → Bool) (out d : List ℕ) (w : Written) (sent : List ℕ) (r : FileRead) (after : List ℕ)
       → isRight ≡ true → isRight′ (length d) ≡ true → length (fileText k m) ≤ length out → length d ≡ length m
       → TextWritten isRight (fileText k m) out w sent
       → MemoryRead k isRight′ (take (length (fileText k m)) sent) d r after
-      → (writtenTold w ≡ accepted (length (fileText k m))) × (fileReadTold r ≡ accepted 0) × (after ≡ map (λ word. word % 16 ^ k) m)
+      → (writtenOutcome w ≡ accepted (length (fileText k m))) × (fileReadOutcome r ≡ accepted 0) × (after ≡ map (λ word. word % 16 ^ k) m)
   return-trip isRight isRight′ out d w sent r after right right′ room size p q =
       let wrote = writing isRight out w sent right room p in
       let back = reading isRight′ d r after right′ size (rw (wrote .1) at q) in
@@ -114,7 +115,7 @@ pub image-returns : (image out d : List ℕ) (w : Written) (sent : List ℕ) (r 
     → length image ≡ imageWords → 53248 ≤ length out → length d ≡ imageWords
     → TextWritten (isImageLength (length image)) (fileText imageDigits image) out w sent
     → MemoryRead imageDigits isImageLength (take 53248 sent) d r after
-    → (writtenTold w ≡ accepted 53248) × (fileReadTold r ≡ accepted 0) × (after ≡ low48 image)
+    → (writtenOutcome w ≡ accepted 53248) × (fileReadOutcome r ≡ accepted 0) × (after ≡ low48 image)
 image-returns image out d w sent r after size room size′ p q =
     let bytes : length (fileText 12 image) ≡ 53248 = rw (length-text, size) in
     let trip = return-trip 12 image (isImageLength (length image)) isImageLength out d w sent r after
@@ -131,7 +132,7 @@ unfolding fileText unlines
 high-bits-not-written [] = refl
 high-bits-not-written (w ∷ ws) = rw (digits-low 16 (omega arith) 12 w, high-bits-not-written ws)
 
-good-words-below : (k room i : ℕ) (ls : List (List ℕ)) (t : Told) → firstBad (wordQuestions k room) i ls t .number ≡ 0 → Below (16 ^ k) (map (value 16) ls)
+good-words-below : (k room i : ℕ) (ls : List (List ℕ)) (t : Outcome) → firstBad (wordQuestions k room) i ls t .number ≡ 0 → Below (16 ^ k) (map (value 16) ls)
 unfolding firstBad
 good-words-below k room i [] t good n = one-le-pow k 16 (omega arith)
 good-words-below k room i (l ∷ ls) t good zero =
@@ -142,20 +143,20 @@ good-words-below k room i (l ∷ ls) t good (suc n) =
     good-words-below k room (i + 1) ls t (first-yes 9 (i + 1) (isWord k l) _ (omega arith) (left .1) .1) n
 
 pub high-bits-read-zero : (text image : List ℕ) (after : List ℕ) → MemoryRead imageDigits isImageLength text image FileRead.Filled after → Below (2 ^ 48) after
-unfolding readTold linesTold fileWords
+unfolding readOutcome linesOutcome fileWords
 high-bits-read-zero text image after p =
-    let told = ap (λ (t : Told). t .number) (sym (p .answer)) in
-    rw (rw told at (p .words)) (below-append (2 ^ 48) (map (value 16) (lines text)) (replicate (length image - length (lines text)) 0) (good-lines text told)
+    let outcome = ap (λ (t : Outcome). t .number) (sym (p .answer)) in
+    rw (rw outcome at (p .words)) (below-append (2 ^ 48) (map (value 16) (lines text)) (replicate (length image - length (lines text)) 0) (good-lines text outcome)
     (below-zeros (2 ^ 48) (omega arith) (length image - length (lines text))))
   where
-    good-lines : (text : List ℕ) → readTold imageDigits isImageLength (length image) text .number ≡ 0 → Below (2 ^ 48) (map (value 16) (lines text))
-    good-lines text told = good-words-below 12 (length image) 0 (lines text) (accepted 0) (first-yes 1 0 (isImageLength (length image)) _ (omega arith) told .1)
+    good-lines : (text : List ℕ) → readOutcome imageDigits isImageLength (length image) text .number ≡ 0 → Below (2 ^ 48) (map (value 16) (lines text))
+    good-lines text outcome = good-words-below 12 (length image) 0 (lines text) (accepted 0) (first-yes 1 0 (isImageLength (length image)) _ (omega arith) outcome .1)
 
 pub data-returns : (memory out d : List ℕ) (w : Written) (sent : List ℕ) (r : FileRead) (after : List ℕ)
     → length memory ≡ dataWords → Below (2 ^ 32) memory → 36864 ≤ length out → length d ≡ dataWords
     → TextWritten (isDataLength (length memory)) (fileText wordDigits memory) out w sent
     → MemoryRead wordDigits isDataLength (take 36864 sent) d r after
-    → (writtenTold w ≡ accepted 36864) × (fileReadTold r ≡ accepted 0) × (after ≡ memory)
+    → (writtenOutcome w ≡ accepted 36864) × (fileReadOutcome r ≡ accepted 0) × (after ≡ memory)
 data-returns memory out d w sent r after size below room size′ p q =
     let bytes : length (fileText 8 memory) ≡ 36864 = rw (length-text, size) in
     let trip = return-trip 8 memory (isDataLength (length memory)) isDataLength out d w sent r after
@@ -166,7 +167,7 @@ pub frame-returns : (frame out d : List ℕ) (w : Written) (sent : List ℕ) (r 
     → length frame ≡ frameBytes → Below (2 ^ 8) frame → 196608 ≤ length out → length d ≡ frameBytes
     → TextWritten (isFrameLength (length frame)) (fileText frameDigits frame) out w sent
     → MemoryRead frameDigits isFrameLength (take 196608 sent) d r after
-    → (writtenTold w ≡ accepted 196608) × (fileReadTold r ≡ accepted 0) × (after ≡ frame)
+    → (writtenOutcome w ≡ accepted 196608) × (fileReadOutcome r ≡ accepted 0) × (after ≡ frame)
 frame-returns frame out d w sent r after size below room size′ p q =
     let bytes : length (fileText 2 frame) ≡ 196608 = rw (length-text, size) in
     let trip = return-trip 2 frame (isFrameLength (length frame)) isFrameLength out d w sent r after
@@ -178,7 +179,7 @@ pub disk-returns : (disk out d : List ℕ) (first sectors : ℕ) (w : Written) (
     → isDiskPart (length disk) first sectors ≡ true → Below (2 ^ 32) disk → 1152 * sectors ≤ length out → length d ≡ sectorWords * sectors
     → TextWritten (isDiskPart (length disk) first sectors) (fileText wordDigits (sectorsOf disk first sectors)) out w sent
     → MemoryRead wordDigits isPartLength (take (1152 * sectors) sent) d r after
-    → (writtenTold w ≡ accepted (1152 * sectors)) × (fileReadTold r ≡ accepted 0) × (after ≡ sectorsOf disk first sectors)
+    → (writtenOutcome w ≡ accepted (1152 * sectors)) × (fileReadOutcome r ≡ accepted 0) × (after ≡ sectorsOf disk first sectors)
 disk-returns disk out d first sectors w sent r after right below room size p q =
     let part = sectorsOf disk first sectors in
     let bytes = length-part disk first sectors right in

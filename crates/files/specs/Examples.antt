@@ -8,8 +8,8 @@ use Rattle.text.specs.Questions.{accepted, refused, firstBad}
 use Rattle.text.specs.Numerals.{digits, allDigits, value}
 use Rattle.text.specs.Lines.{lines, unlines}
 use Rattle.files.specs.Sizes.{isFrameLength, isPartLength, isDiskPart}
-use Rattle.files.specs.MemoryFile.{linesTold, readTold, writeTold, fileWords, fileText, sectorsOf}
-use Rattle.files.specs.Irq2File.{isCycle, irq2Told, fileCycles}
+use Rattle.files.specs.MemoryFile.{linesOutcome, readOutcome, writeOutcome, fileWords, fileText, sectorsOf}
+use Rattle.files.specs.Irq2File.{isCycle, irq2Outcome, fileCycles}
 
 -- The bytes 0x0A and 0xFF are written `0A` LF `FF` LF.
 written : fileText 2 (0x0A ∷ 0xFF ∷ []) ≡ bytes "0A\nFF\n"
@@ -22,40 +22,40 @@ unfolding fileWords lines value
 filled = refl
 
 -- It is accepted where there is room for it, and refused where its second line has none.
-room-for-both : linesTold 2 3 (bytes "0a\nFF") ≡ accepted 0
-unfolding linesTold firstBad lines allDigits
+room-for-both : linesOutcome 2 3 (bytes "0a\nFF") ≡ accepted 0
+unfolding linesOutcome firstBad lines allDigits
 room-for-both = refl
 
-room-for-one : linesTold 2 1 (bytes "0a\nFF") ≡ refused 10 2
-unfolding linesTold firstBad lines allDigits
+room-for-one : linesOutcome 2 1 (bytes "0a\nFF") ≡ refused 10 2
+unfolding linesOutcome firstBad lines allDigits
 room-for-one = refl
 
 -- `00` LF LF: the empty line is 9 where a word is left for it, 10 where none is.
-empty-line : linesTold 2 3 (bytes "00\n\n") ≡ refused 9 2
-unfolding linesTold firstBad lines allDigits
+empty-line : linesOutcome 2 3 (bytes "00\n\n") ≡ refused 9 2
+unfolding linesOutcome firstBad lines allDigits
 empty-line = refl
 
-empty-line-past-the-end : linesTold 2 1 (bytes "00\n\n") ≡ refused 10 2
-unfolding linesTold firstBad lines allDigits
+empty-line-past-the-end : linesOutcome 2 1 (bytes "00\n\n") ≡ refused 10 2
+unfolding linesOutcome firstBad lines allDigits
 empty-line-past-the-end = refl
 
 -- `00` CR LF.
-carriage-return : linesTold 2 3 (bytes "00\r\n") ≡ refused 9 1
-unfolding linesTold firstBad lines allDigits
+carriage-return : linesOutcome 2 3 (bytes "00\r\n") ≡ refused 9 1
+unfolding linesOutcome firstBad lines allDigits
 carriage-return = refl
 
 -- A wrong length is asked first.
-wrong-length : readTold 2 isFrameLength 3 (bytes "\n") ≡ refused 1 0
-unfolding readTold
+wrong-length : readOutcome 2 isFrameLength 3 (bytes "\n") ≡ refused 1 0
+unfolding readOutcome
 wrong-length = refl
 
 -- `5` LF `05` is no rising file; `5` LF `06` is one, of two cycles.
-equal-cycles : irq2Told 9 (bytes "5\n05") ≡ refused 12 2
-unfolding irq2Told firstBad lines allDigits value
+equal-cycles : irq2Outcome 9 (bytes "5\n05") ≡ refused 12 2
+unfolding irq2Outcome firstBad lines allDigits value
 equal-cycles = refl
 
-rising-cycles : irq2Told 9 (bytes "5\n06") ≡ accepted 2
-unfolding irq2Told firstBad lines allDigits value
+rising-cycles : irq2Outcome 9 (bytes "5\n06") ≡ accepted 2
+unfolding irq2Outcome firstBad lines allDigits value
 rising-cycles = refl
 
 two-cycles : fileCycles (bytes "5\n06") ≡ 5 ∷ 6 ∷ []
@@ -80,8 +80,8 @@ second-sector : sectorsOf (replicate 128 7 ++ replicate 128 8) 1 1 ≡ replicate
 second-sector = refl
 
 -- A file of no lines is good.
-empty-file : linesTold 2 3 [] ≡ accepted 0
-unfolding linesTold firstBad lines
+empty-file : linesOutcome 2 3 [] ≡ accepted 0
+unfolding linesOutcome firstBad lines
 empty-file = refl
 
 -- Bits above 47 are not written.
@@ -90,16 +90,16 @@ unfolding fileText unlines digits
 high-bits = refl
 
 -- Three bytes of text fit three, and not two; question 1 comes first.
-exact-room : writeTold true (bytes "0A\n") 3 ≡ accepted 3
-unfolding writeTold
+exact-room : writeOutcome true (bytes "0A\n") 3 ≡ accepted 3
+unfolding writeOutcome
 exact-room = refl
 
-one-byte-short : writeTold true (bytes "0A\n") 2 ≡ refused 15 0
-unfolding writeTold
+one-byte-short : writeOutcome true (bytes "0A\n") 2 ≡ refused 15 0
+unfolding writeOutcome
 one-byte-short = refl
 
-length-first : writeTold false (bytes "0A\n") 2 ≡ refused 1 0
-unfolding writeTold
+length-first : writeOutcome false (bytes "0A\n") 2 ≡ refused 1 0
+unfolding writeOutcome
 length-first = refl
 
 -- 2^40-2 is the last good cycle; 14 digits are too many, whatever they stand for.

@@ -7,7 +7,8 @@ use lib.Dec.{ltb, leb}
 use lib.ListN.{length, getD}
 use Rattle.text.specs.declared.Numeral.{Numeral}
 use Rattle.text.specs.declared.Numeral.the-variants.{Value, NoNumeral}
-use Rattle.text.specs.Questions.{Question, Told, accepted, firstBad}
+use Rattle.text.specs.declared.Outcome.{Outcome}
+use Rattle.text.specs.Questions.{Question, accepted, firstBad}
 use Rattle.text.specs.Numerals.{allDigits, value}
 use Rattle.text.specs.Lines.{lines}
 use Rattle.files.specs.Sizes.{cycleLimit, cycleDigits}
@@ -40,8 +41,8 @@ abbrev pub cycleQuestions : ℕ → List (List ℕ) → ℕ → List ℕ → Lis
 cycleQuestions room all i l = (10, ltb i room) ∷ (11, isCycle l) ∷ (12, isAbove all i l) ∷ []
 
 -- What the reader tells: the count of the cycles, or the first no.
-unfoldable pub irq2Told : ℕ → List ℕ → Told
-irq2Told room text = firstBad (cycleQuestions room (lines text)) 0 (lines text) (accepted (length (lines text)))
+unfoldable pub irq2Outcome : ℕ → List ℕ → Outcome
+irq2Outcome room text = firstBad (cycleQuestions room (lines text)) 0 (lines text) (accepted (length (lines text)))
 
 -- The cycles of a good file.
 abbrev pub fileCycles : List ℕ → List ℕ

@@ -4,4 +4,5 @@ pub mod MemoryFile
 pub mod Irq2File
 pub mod Answers
 pub mod Promises
+pub mod Loaded
 pub mod Examples

@@ -6,7 +6,8 @@ use mathlib.Core.Bool.{Bool, _&&_}
 use mathlib.Core.List.{List, [], _∷_, _++_, map}
 use lib.Dec.{eqb, ltb, leb}
 use lib.ListN.{length, replicate, take, drop}
-use Rattle.text.specs.Questions.{Question, Told, accepted, firstNo, firstBad}
+use Rattle.text.specs.declared.Outcome.{Outcome}
+use Rattle.text.specs.Questions.{Question, accepted, firstNo, firstBad}
 use Rattle.text.specs.Numerals.{digits, allDigits, value}
 use Rattle.text.specs.Lines.{lines, unlines}
 use Rattle.files.specs.Sizes.{sectorWords}
@@ -23,12 +24,12 @@ abbrev pub wordQuestions : ℕ → ℕ → ℕ → List ℕ → List Question
 wordQuestions k room i l = (10, ltb i room) ∷ (9, isWord k l) ∷ []
 
 -- What a reader tells of the lines of a text.
-unfoldable pub linesTold : ℕ → ℕ → List ℕ → Told
-linesTold k room text = firstBad (wordQuestions k room) 0 (lines text) (accepted 0)
+unfoldable pub linesOutcome : ℕ → ℕ → List ℕ → Outcome
+linesOutcome k room text = firstBad (wordQuestions k room) 0 (lines text) (accepted 0)
 
 -- What a reader tells: question 1 of the memory's length, then those of the lines.
-unfoldable pub readTold : ℕ → (ℕ → Bool) → ℕ → List ℕ → Told
-readTold k isRight length text = firstNo ((1, isRight length) ∷ []) 0 (linesTold k length text)
+unfoldable pub readOutcome : ℕ → (ℕ → Bool) → ℕ → List ℕ → Outcome
+readOutcome k isRight length text = firstNo ((1, isRight length) ∷ []) 0 (linesOutcome k length text)
 
 -- The n words that a good file gives: one for each line, and "missing lines are zero".
 unfoldable pub fileWords : ℕ → List (List ℕ) → List ℕ
@@ -50,8 +51,8 @@ unfoldable pub fileText : ℕ → List ℕ → List ℕ
 fileText k words = unlines (map (digits 16 k) words)
 
 -- What a writer tells: question 1, which `isRight` answers, then "does the whole text fit? 15". Where it does, the count of its bytes.
-unfoldable pub writeTold : Bool → List ℕ → ℕ → Told
-writeTold isRight file room = firstNo ((1, isRight) ∷ (15, leb (length file) room) ∷ []) 0 (accepted (length file))
+unfoldable pub writeOutcome : Bool → List ℕ → ℕ → Outcome
+writeOutcome isRight file room = firstNo ((1, isRight) ∷ (15, leb (length file) room) ∷ []) 0 (accepted (length file))
 
 -- The words of so many sectors of the disk, from sector `first` on.
 abbrev pub sectorsOf : List ℕ → ℕ → ℕ → List ℕ

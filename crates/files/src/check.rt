@@ -7,13 +7,13 @@ ghost use Prim.Native.Nat.{_≤_};
 ghost use lib.ListN.{length, drop};
 ghost use Rattle.text.specs.Numerals.{DigitValues};
 ghost use Rattle.text.specs.Lines.{firstLine};
-ghost use Rattle.files.specs.MemoryFile.{isWord, linesTold};
-ghost use Rattle.files.specs.Answers.{fileReadTold};
+ghost use Rattle.files.specs.MemoryFile.{isWord, linesOutcome};
+ghost use Rattle.files.specs.Answers.{fileReadOutcome};
 
 // Asks of each line of the text whether a word of the memory, which has `room`, is left for it, and whether it is k digits.
 pub fn check_words(text: &[u8], k: usize, room: usize, values: &[u8; 256]) -> FileRead
     requires { ⌜ DigitValues (now values) ⌝ }
-    ensures { λ r. ⌜ fileReadTold r ≡ linesTold k room (now (text .entry)) ⌝ }
+    ensures { λ r. ⌜ fileReadOutcome r ≡ linesOutcome k room (now (text .entry)) ⌝ }
 {
     let mut at = 0;
     let mut i = 0;

@@ -14,7 +14,7 @@ ghost use lib.ListN.{length, take, drop, replicate};
 ghost use Rattle.text.specs.Numerals.{DigitValues, value};
 ghost use Rattle.text.specs.Lines.{firstLine, lines};
 ghost use Rattle.files.specs.Sizes.{imageDigits, wordDigits, frameDigits};
-ghost use Rattle.files.specs.MemoryFile.{isWord, linesTold, fileWords};
+ghost use Rattle.files.specs.MemoryFile.{isWord, linesOutcome, fileWords};
 
 // The number on the line that begins at `at`, which is k hexadecimal digits.
 fn word(text: &[u8], at: usize, k: usize, values: &[u8; 256]) -> u64
@@ -26,7 +26,7 @@ fn word(text: &[u8], at: usize, k: usize, values: &[u8; 256]) -> u64
 
 // Sets every word from a good file of 12 digits a line.
 pub fn fill_image(text: &[u8], image: &mut [u64], values: &[u8; 256])
-    requires { ⌜ (linesTold imageDigits (length (now image)) (now text) .number ≡ 0) × DigitValues (now values) ⌝ }
+    requires { ⌜ (linesOutcome imageDigits (length (now image)) (now text) .number ≡ 0) × DigitValues (now values) ⌝ }
     ensures { λ _. ⌜ now (image .exit) ≡ fileWords (length (now (image .entry))) (lines (now (text .entry))) ⌝ }
 {
     let mut at = 0;
@@ -53,7 +53,7 @@ fn clear_image(image: &mut [u64], from: usize)
 
 // Sets every word from a good file of 8 digits a line.
 pub fn fill_words(text: &[u8], memory: &mut [u32], values: &[u8; 256])
-    requires { ⌜ (linesTold wordDigits (length (now memory)) (now text) .number ≡ 0) × DigitValues (now values) ⌝ }
+    requires { ⌜ (linesOutcome wordDigits (length (now memory)) (now text) .number ≡ 0) × DigitValues (now values) ⌝ }
     ensures { λ _. ⌜ now (memory .exit) ≡ fileWords (length (now (memory .entry))) (lines (now (text .entry))) ⌝ }
 {
     let mut at = 0;
@@ -80,7 +80,7 @@ fn clear_words(memory: &mut [u32], from: usize)
 
 // Sets every word from a good file of 2 digits a line.
 pub fn fill_frame(text: &[u8], frame: &mut [u8], values: &[u8; 256])
-    requires { ⌜ (linesTold frameDigits (length (now frame)) (now text) .number ≡ 0) × DigitValues (now values) ⌝ }
+    requires { ⌜ (linesOutcome frameDigits (length (now frame)) (now text) .number ≡ 0) × DigitValues (now values) ⌝ }
     ensures { λ _. ⌜ now (frame .exit) ≡ fileWords (length (now (frame .entry))) (lines (now (text .entry))) ⌝ }
 {
     let mut at = 0;

@@ -10,8 +10,8 @@ ghost use mathlib.Core.Path.{_≡_};
 ghost use lib.ListN.{length};
 ghost use Rattle.text.specs.Numerals.{DigitValues};
 ghost use Rattle.text.specs.Place.{put};
-ghost use Rattle.files.specs.Irq2File.{lineCycle, irq2Told, fileCycles};
-ghost use Rattle.files.specs.Answers.{cyclesReadTold};
+ghost use Rattle.files.specs.Irq2File.{lineCycle, irq2Outcome, fileCycles};
+ghost use Rattle.files.specs.Answers.{cyclesReadOutcome};
 ghost use Rattle.files.specs.Promises.{Irq2Read};
 
 // Reads an irq2 file: one cycle a line, strictly rising, into the front of a slice of any length.
@@ -33,7 +33,7 @@ pub fn read_irq2(text: &[u8], cycles: &mut [u64]) -> CyclesRead
 // Asks the questions of an irq2 file's lines.
 fn check_cycles(text: &[u8], room: usize, values: &[u8; 256]) -> CyclesRead
     requires { ⌜ DigitValues (now values) ⌝ }
-    ensures { λ r. ⌜ cyclesReadTold r ≡ irq2Told room (now (text .entry)) ⌝ }
+    ensures { λ r. ⌜ cyclesReadOutcome r ≡ irq2Outcome room (now (text .entry)) ⌝ }
 {
     let mut at = 0;
     let mut i = 0;
@@ -78,7 +78,7 @@ fn line_cycle(line: &[u8], values: &[u8; 256]) -> Numeral
 
 // Puts the cycles of a good file at the front of the slice.
 fn fill_cycles(text: &[u8], cycles: &mut [u64], values: &[u8; 256])
-    requires { ⌜ (irq2Told (length (now cycles)) (now text) .number ≡ 0) × DigitValues (now values) ⌝ }
+    requires { ⌜ (irq2Outcome (length (now cycles)) (now text) .number ≡ 0) × DigitValues (now values) ⌝ }
     ensures { λ _. ⌜ now (cycles .exit) ≡ put (now (cycles .entry)) 0 (fileCycles (now (text .entry))) ⌝ }
 {
     let mut at = 0;

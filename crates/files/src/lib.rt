@@ -1,5 +1,6 @@
 // The memory files (one word a line, 12, 8 or 2 hexadecimal digits) and the irq2 file (one cycle a line, decimal): their readers and
 // writers.
+mod answers;
 mod check;
 mod fill;
 mod irq2;

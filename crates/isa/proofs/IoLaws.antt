@@ -1,4 +1,4 @@
--- Laws of the I/O registers' table: numbers that are not listed, and what a register keeps. Assumes nothing.
+-- Laws of the I/O registers' table: numbers that are not listed, and the low bits of a register's width. Assumes nothing.
 use Prim.Native.Nat.{ℕ, _%_, _^_, _≤_, _<_}
 use mathlib.Core.Path.{_≡_, refl, sym, _∙_, ap}
 use mathlib.Core.Bool.{Bool, true, false, false≢true}
@@ -19,15 +19,15 @@ pub no-name-above : (n : ℕ) → 23 ≤ n → ioName n ≡ []
 unfolding ioName
 no-name-above n h = ap (λ (r : IoRegister). r .name) (List·getD-eq-default ioRegisters notListed h)
 
--- What a register keeps, by its bits: the low ones, or all of a word.
-pub kept-low : (n x bits : ℕ) → bits ≡ ioBits n → x % 2 ^ bits ≡ x % 2 ^ ioBits n
-kept-low n x bits e = ap (λ (b : ℕ). x % 2 ^ b) e
+-- The low bits of a register's width: so many, all of a word, or none.
+pub low-same : (n x bits : ℕ) → bits ≡ ioBits n → x % 2 ^ bits ≡ x % 2 ^ ioBits n
+low-same n x bits e = ap (λ (b : ℕ). x % 2 ^ b) e
 
-pub kept-word : (n x : ℕ) → x < 2 ^ 32 → 32 ≡ ioBits n → x ≡ x % 2 ^ ioBits n
-kept-word n x h e = sym (mod-eq-of-lt h) ∙ kept-low n x 32 e
+pub low-word : (n x : ℕ) → x < 2 ^ 32 → 32 ≡ ioBits n → x ≡ x % 2 ^ ioBits n
+low-word n x h e = sym (mod-eq-of-lt h) ∙ low-same n x 32 e
 
-pub kept-none : (n x : ℕ) → 0 ≡ ioBits n → 0 ≡ x % 2 ^ ioBits n
-kept-none n x e = rw (← e) (omega arith)
+pub low-none : (n x : ℕ) → 0 ≡ ioBits n → 0 ≡ x % 2 ^ ioBits n
+low-none n x e = rw (← e) (omega arith)
 
 -- A number that is listed is below 23.
 pub listed-lt : (n : ℕ) → isListed n ≡ true → n < 23

@@ -7,6 +7,8 @@ use native.Mathlib.Omega.{arith}
 use lib.ListN.{length, getD, drop, List·getD-eq-default}
 use lib.Seq.{getD-drop}
 use Rattle.isa.specs.Operations.{Operation, calculate, branch, unknown, add, beq, calculations, comparisons, operations, operationOf, calculationOf, comparisonOf}
+use Rattle.isa.specs.Accesses.{accessOf}
+use Rattle.isa.specs.declared.Access.the-variants.{Nothing}
 
 -- An operation of the family that stands first.
 of-family : {A : Type 0} (f : A → Operation) (l : List A) (r : List Operation) (n : ℕ) (e : A) → n < length l → getD (map f l ++ r) n unknown ≡ f (getD l n e)
@@ -26,6 +28,18 @@ comparison-at op low high =
     let from-nine : op ≡ 9 + (op - 9) = omega arith in
     ap (λ (n : ℕ). getD operations n unknown) from-nine ∙ sym (getD-drop 9 operations (op - 9) unknown)
     ∙ of-family branch comparisons (drop 15 operations) (op - 9) beq (omega arith)
+
+-- 15 to 18 do nothing with the I/O registers.
+pub nothing-at : (op : ℕ) → 15 ≤ op → op < 19 → accessOf (operationOf op) ≡ Nothing
+unfolding operationOf accessOf
+nothing-at op low high = let from : op ≡ 15 + (op - 15) = omega arith in rw from (go (op - 15) (omega arith))
+  where
+    go : (k : ℕ) → k < 4 → accessOf (operationOf (15 + k)) ≡ Nothing
+    go zero h = refl
+    go (suc zero) h = refl
+    go (suc (suc zero)) h = refl
+    go (suc (suc (suc zero))) h = refl
+    go (suc (suc (suc (suc k)))) h = absurd (omega arith)
 
 -- Above 21 there is none.
 pub unknown-above : (op : ℕ) → 22 ≤ op → operationOf op ≡ unknown

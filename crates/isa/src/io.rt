@@ -1,4 +1,4 @@
-// The I/O registers: their numbers, which are listed, and what each keeps of a value.
+// The I/O registers: their numbers, which are listed, and how many bits each has.
 pub use devices::numbers::DISKCMD;
 pub use devices::numbers::DISKSTATUS;
 pub use devices::numbers::IRQ0STATUS;
@@ -48,64 +48,22 @@ pub fn is_listed(n: u32) -> bool
     }
 }
 
-// How many bits a register has; 0 where the number is not listed.
-pub fn io_bits(n: u32) -> u32
-    ensures { λ r. ⌜ r ≡ ioBits n ⌝ }
-{
-    match n {
-        0..=5 => 1,
-        6..=7 => 12,
-        8..=10 => 32,
-        11..=17 => device_bits(n),
-        20..=22 => monitor_bits(n),
-        _ => 0,
-    }
-}
-
-// The bits of the timer's and the disk's registers, 11 to 17.
-fn device_bits(n: u32) -> u32
-    requires { ⌜ (11 ≤ n) × (n < 18) ⌝ }
-    ensures { λ r. ⌜ r ≡ ioBits n ⌝ }
-{
-    match n {
-        11 => 1,
-        12 => 32,
-        13 => 32,
-        14 => 2,
-        15 => 7,
-        16 => 12,
-        _ => 1,
-    }
-}
-
-// The bits of the monitor's registers, 20 to 22.
-fn monitor_bits(n: u32) -> u32
-    requires { ⌜ (20 ≤ n) × (n < 23) ⌝ }
-    ensures { λ r. ⌜ r ≡ ioBits n ⌝ }
-{
-    match n {
-        20 => 16,
-        21 => 8,
-        _ => 1,
-    }
-}
-
-// What a register keeps of a value: the low bits of its width.
-pub fn keep(n: u32, x: u32) -> u32
+// The low bits of a value, as many as a register has.
+pub fn low_bits(n: u32, x: u32) -> u32
     ensures { λ r. ⌜ r ≡ x % 2 ^ ioBits n ⌝ }
 {
     match n {
         0..=5 => x % 2,
         6..=7 => x % 4096,
         8..=10 => x,
-        11..=17 => keep_in_device(n, x),
-        20..=22 => keep_in_monitor(n, x),
+        11..=17 => low_bits_in_device(n, x),
+        20..=22 => low_bits_in_monitor(n, x),
         _ => 0,
     }
 }
 
-// What the timer's and the disk's registers keep, 11 to 17.
-fn keep_in_device(n: u32, x: u32) -> u32
+// The same of the timer's and the disk's registers, 11 to 17.
+fn low_bits_in_device(n: u32, x: u32) -> u32
     requires { ⌜ (11 ≤ n) × (n < 18) ⌝ }
     ensures { λ r. ⌜ r ≡ x % 2 ^ ioBits n ⌝ }
 {
@@ -120,8 +78,8 @@ fn keep_in_device(n: u32, x: u32) -> u32
     }
 }
 
-// What the monitor's registers keep, 20 to 22.
-fn keep_in_monitor(n: u32, x: u32) -> u32
+// The same of the monitor's registers, 20 to 22.
+fn low_bits_in_monitor(n: u32, x: u32) -> u32
     requires { ⌜ (20 ≤ n) × (n < 23) ⌝ }
     ensures { λ r. ⌜ r ≡ x % 2 ^ ioBits n ⌝ }
 {
@@ -132,50 +90,40 @@ fn keep_in_monitor(n: u32, x: u32) -> u32
     }
 }
 
+// How many bytes each register's name has, by its number; 18 and 19 have none.
+const NAME_LENGTHS: [u8; 23] = [
+    10,
+    10,
+    10,
+    10,
+    10,
+    10,
+    10,
+    9,
+    4,
+    4,
+    11,
+    11,
+    12,
+    8,
+    7,
+    10,
+    10,
+    10,
+    0,
+    0,
+    11,
+    11,
+    10,
+];
+
 // How many bytes a register's name has; 0 where the number is not listed.
 pub fn io_name_length(n: u32) -> usize
     ensures { λ r. ⌜ r ≡ length (ioName n) ⌝ }
 {
-    match n {
-        0..=6 => 10,
-        7..=11 => output_name_length(n),
-        12..=14 => timer_name_length(n),
-        15..=17 => 10,
-        20..=21 => 11,
-        18..=19 => 0,
-        _ => last_name_length(n),
+    if n < 23 {
+        NAME_LENGTHS[n as usize] as usize
+    } else {
+        0
     }
-}
-
-// The lengths of irqreturn, clks, leds, display7seg and timerenable, 7 to 11.
-fn output_name_length(n: u32) -> usize
-    requires { ⌜ (7 ≤ n) × (n < 12) ⌝ }
-    ensures { λ r. ⌜ r ≡ length (ioName n) ⌝ }
-{
-    match n {
-        7 => 9,
-        8 => 4,
-        9 => 4,
-        _ => 11,
-    }
-}
-
-// The lengths of timercurrent, timermax and diskcmd, 12 to 14.
-fn timer_name_length(n: u32) -> usize
-    requires { ⌜ (12 ≤ n) × (n < 15) ⌝ }
-    ensures { λ r. ⌜ r ≡ length (ioName n) ⌝ }
-{
-    match n {
-        12 => 12,
-        13 => 8,
-        _ => 7,
-    }
-}
-
-// The length of monitorcmd, 22; no number above it is listed.
-fn last_name_length(n: u32) -> usize
-    requires { ⌜ 22 ≤ n ⌝ }
-    ensures { λ r. ⌜ r ≡ length (ioName n) ⌝ }
-{
-    if n == 22 { 10 } else { 0 }
 }

@@ -1,7 +1,2 @@
--- The C face of the lab.
-pub mod Answers
-pub mod Files
-pub mod Assembly
-pub mod Numbers
-pub mod Records
-pub mod Runs
+-- The words of the program.
+pub mod Words

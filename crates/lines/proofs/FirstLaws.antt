@@ -11,7 +11,7 @@ use borrow.Author.Tests.{lt-leb, eqb-true}
 use Rattle.text.specs.Bytes.{bytes}
 use Rattle.text.proofs.Truth.{and-left}
 use Rattle.source.specs.declared.Span.{Span}
-use Rattle.source.specs.Bytes.{mostBytes, areRightBytes, isLetter, isLetterOrDigit, all}
+use Rattle.source.specs.Bytes.{mostBytes, areRightBytes, isLetter, isLetterOrDigit, areAll}
 use Rattle.source.specs.Tokens.{tokens, tokensFrom, texts}
 use Rattle.source.specs.Spans.{TokenAt}
 use Rattle.text.specs.Same.{same}
@@ -90,7 +90,7 @@ definition-ends t e = eqb-true (getD t (length t - 1) 0) 58 (and-left (eqb (getD
 
 name-begins : (t : List ℕ) → isName t ≡ true → isLetter (getD t 0 0) ≡ true
 unfolding isName
-name-begins t e = and-left (isLetter (getD t 0 0)) (leb (length t) 50) (and-left (isLetter (getD t 0 0) && leb (length t) 50) (all isLetterOrDigit t) e)
+name-begins t e = and-left (isLetter (getD t 0 0)) (leb (length t) 50) (and-left (isLetter (getD t 0 0) && leb (length t) 50) (areAll isLetterOrDigit t) e)
 
 directive-begins : (t : List ℕ) → same t directive ≡ true → getD t 0 0 ≡ 46
 unfolding same

@@ -6,7 +6,7 @@ use mathlib.Core.List.{List, [], _∷_, _++_, map}
 use lib.ListN.{replicate}
 use Rattle.text.specs.Bytes.{bytes}
 use Rattle.text.specs.Numerals.{allDigits, value}
-use Rattle.source.specs.Bytes.{all, areRightBytes}
+use Rattle.source.specs.Bytes.{areAll, areRightBytes}
 use Rattle.source.specs.Tokens.{tokensFrom}
 use Rattle.source.specs.Numbers.{number}
 use Rattle.text.specs.Same.{same}
@@ -17,7 +17,7 @@ use Rattle.lines.specs.declared.Form.the-variants.{Nothing, Label, Code,
 use Rattle.lines.specs.Line.{shapes, formOf}
 
 unfoldable formOfBytes : List ℕ → Form
-unfolding formOf shapes firstShape matches fits isName isRegister isDefinition number same tokensFrom areRightBytes all allDigits value
+unfolding formOf shapes firstShape matches fits isName isRegister isDefinition number same tokensFrom areRightBytes areAll allDigits value
 formOfBytes line = formOf line
 
 unfoldable form : String → Form

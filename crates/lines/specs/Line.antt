@@ -7,7 +7,7 @@ use Rattle.text.specs.Bytes.{bytes}
 use Rattle.source.specs.Bytes.{areRightBytes}
 use Rattle.source.specs.Tokens.{texts}
 use Rattle.source.specs.Names.{defined}
-use Rattle.source.specs.Shapes.{formOf as shapeOf}
+use Rattle.source.specs.Shapes.{parsed}
 use Rattle.lines.specs.declared.Form.{Form}
 use Rattle.lines.specs.declared.Form.the-variants.{Nothing, Label, Code, Labelled, Word, Wrong}
 
@@ -24,7 +24,7 @@ formAt n = getD (Nothing ∷ Label ∷ Code ∷ Labelled ∷ Word ∷ []) n Wron
 
 -- The form of a line that passes question 2; else it has none.
 unfoldable pub formOf : List ℕ → Form
-formOf line = cond (areRightBytes line) (formAt (shapeOf directive shapes line .shape)) Wrong
+formOf line = cond (areRightBytes line) (formAt (parsed directive shapes line .shape)) Wrong
 
 abbrev pub isRight : Form → Bool
 isRight Nothing = true
@@ -62,7 +62,7 @@ hasWord Wrong = false
 
 -- Token k of a line.
 abbrev pub part : ℕ → List ℕ → List ℕ
-part k line = getD (texts (shapeOf directive shapes line .parts)) k []
+part k line = getD (texts (parsed directive shapes line .parts)) k []
 
 -- The label that a line defines.
 abbrev pub labelOf : List ℕ → List ℕ

@@ -12,7 +12,7 @@ ghost use Prim.Native.Nat.{_≤_};
 ghost use lib.ListN.{length};
 ghost use Rattle.text.specs.Numerals.{DigitValues};
 ghost use Rattle.source.specs.Spans.{Split};
-ghost use Rattle.source.specs.Shapes.{formOf as shapeOf};
+ghost use Rattle.source.specs.Shapes.{parsed};
 ghost use Rattle.lines.specs.Line.{directive as directiveOf, shapes, formAt, isRight, hasLabel, hasCode, hasWord};
 ghost use Rattle.lines.specs.Parts.{partCount, mostPlaces, Formed, FirstFormed};
 
@@ -57,7 +57,7 @@ pub fn first_form(line: &[u8], places: &mut [usize], values: &[u8; 256]) -> Form
 // The form of a line that is split into n tokens, by the first shape that it has.
 fn shape_form(line: &[u8], places: &[usize], n: usize, values: &[u8; 256]) -> Form
     requires { ⌜ (Split (now line) (now places) n) × (length (now places) ≡ mostPlaces) × DigitValues (now values) ⌝ }
-    ensures { λ r. ⌜ (r ≡ formAt (shapeOf directiveOf shapes (now (line .entry)) .shape)) × (partCount r ≤ n) ⌝ }
+    ensures { λ r. ⌜ (r ≡ formAt (parsed directiveOf shapes (now (line .entry)) .shape)) × (partCount r ≤ n) ⌝ }
 {
     let directive = b".word";
     if has_shape(line, places, n, directive, b"", values) {

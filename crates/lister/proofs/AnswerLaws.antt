@@ -7,20 +7,21 @@ use lib.Dec.{leb, ltb}
 use lib.ListN.{length}
 use borrow.Author.Tests.{le-leb, lt-leb, lt-ltb, le-ltb}
 use Rattle.text.specs.Place.{put}
-use Rattle.text.specs.Questions.{Told, refused}
+use Rattle.text.specs.declared.Outcome.{Outcome}
+use Rattle.text.specs.Questions.{refused}
 use Rattle.lister.specs.declared.Listed.the-variants.{Bytes, WrongLength, UnknownOpcode, NoRoom}
 use Rattle.lister.specs.Listing.{listing}
-use Rattle.lister.specs.Calls.{firstUnknown, listTold, TextListed}
+use Rattle.lister.specs.Calls.{firstUnknown, listOutcome, TextListed}
 
 module _ (words out : List ℕ) where
   pub wrong-length : 4096 < length words → TextListed words out WrongLength out
-  unfolding listTold
+  unfolding listOutcome
   wrong-length h = let long = lt-leb (length words) 4096 h in record { answer = rw long; bytes = rw long }
 
   -- As many words as can be listed, and the first unknown opcode stands at `bad`.
-  module _ (right : length words ≤ 4096) (bad : ℕ) (asked : (next : Told) → firstUnknown 0 words next ≡ cond (ltb bad (length words)) (refused 16 bad) next) where
+  module _ (right : length words ≤ 4096) (bad : ℕ) (asked : (next : Outcome) → firstUnknown 0 words next ≡ cond (ltb bad (length words)) (refused 16 bad) next) where
     pub unknown-opcode : bad < length words → TextListed words out (UnknownOpcode bad) out
-    unfolding listTold
+    unfolding listOutcome
     unknown-opcode h =
         let few = le-leb (length words) 4096 right in
         let there = lt-ltb bad (length words) h in
@@ -29,7 +30,7 @@ module _ (words out : List ℕ) where
     -- There is none.
     module _ (known : length words ≤ bad) where
       pub no-room : leb (length (listing words)) (length out) ≡ false → TextListed words out NoRoom out
-      unfolding listTold
+      unfolding listOutcome
       no-room full =
           let few = le-leb (length words) 4096 right in
           let none = le-ltb bad (length words) known in
@@ -37,7 +38,7 @@ module _ (words out : List ℕ) where
 
       pub wrote : (n : ℕ) (after : List ℕ) → leb (length (listing words)) (length out) ≡ true → after ≡ put out 0 (listing words) → n ≡ length (listing words)
           → TextListed words out (Bytes n) after
-      unfolding listTold
+      unfolding listOutcome
       wrote n after fits q e =
           let few = le-leb (length words) 4096 right in
           let none = le-ltb bad (length words) known in

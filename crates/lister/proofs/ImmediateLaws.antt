@@ -1,23 +1,24 @@
 -- Immediates read as signed numbers, and their decimals. Assumes nothing.
-use Prim.Native.Char.{code}
 use Prim.Native.Nat.{ℕ, suc, _+_, _-_, _^_, _≤_, _<_}
-use mathlib.Core.Path.{_≡_, refl, sym, _∙_, ap}
+use mathlib.Core.Path.{_≡_, refl, sym, ap}
 use mathlib.Core.Bool.{Bool, true, false, false≢true}
-use mathlib.Core.List.{_∷_}
+use mathlib.Core.List.{[], _++_}
 use native.Mathlib.Nat.{zero-add}
 use native.Mathlib.Omega.{arith}
 use lib.Dec.{ltb}
 use lib.IntN.{ℤ, pos, negsuc, natAbs, _-ℤ_}
-use lib.ListN.{length}
+use lib.ListN.{length, length-append}
 use lib.Signed.{mag, ltZ}
 use mir.Syntax.{w32}
 use mir.Val.{toZ, ofZ}
 use mir.Facts.{toZ-pos, toZ-neg, toZ-ofZ}
 use borrow.Author.Tests.{lt-ltb, le-ltb, ltb-true, ltb-false}
+use Rattle.text.specs.Bytes.{bytes}
 use Rattle.text.specs.Numerals.{digitCount, decimal}
 use Rattle.text.proofs.DecimalLaws.{length-decimal, count-le}
 use Rattle.isa.specs.Word.{signExtended}
 use Rattle.lister.specs.Listing.{signedDecimal}
+use Rattle.lister.specs.Sign.{signOf}
 
 -- ---- an immediate, read as a signed number
 
@@ -40,35 +41,20 @@ module _ (i : ℕ) (z : ℤ) (fits : i < 2 ^ 12) (e : z ≡ toZ w32 (signExtende
       go true q = rw (e, reads-plain i (ltb-true i _ q)) fits
       go false q = rw (e, reads-negative i (ltb-false i _ q) fits) (omega arith)
 
-  -- Where it is negative, its decimal is a minus and that of its magnitude.
+  -- Its decimal is its sign and the decimal of its magnitude.
   module _ (size : ℕ) (s : size ≡ natAbs z) where
-    pub negative-text : ltZ z (pos 0) ≡ true → signedDecimal i ≡ code "-" ∷ decimal size
+    pub signed-text : signedDecimal i ≡ signOf z ++ decimal size
     unfolding signedDecimal
-    negative-text below = go (ltb i (2 ^ 11)) refl
+    signed-text = go (ltb i (2 ^ 11)) refl
       where
-        go : (t : Bool) → ltb i (2 ^ 11) ≡ t → signedDecimal i ≡ code "-" ∷ decimal size
-        go true q =
-            let none = ltb-true i 0 (sym (ap (λ (z : ℤ). ltZ z (pos 0)) (e ∙ reads-plain i (ltb-true i _ q))) ∙ below) in
-            absurd (omega arith)
+        go : (t : Bool) → ltb i (2 ^ 11) ≡ t → signedDecimal i ≡ signOf z ++ decimal size
+        go true q = rw (q, s, e, reads-plain i (ltb-true i _ q), le-ltb i 0 (omega arith))
         go false q =
             let lacks : 2 ^ 12 - i ≡ suc (2 ^ 12 - suc i) = omega arith in
             rw (q, s, e, reads-negative i (ltb-false i _ q) fits, lacks)
 
-    -- Else it is that of the number.
-    pub plain-text : ltZ z (pos 0) ≡ false → signedDecimal i ≡ decimal size
-    unfolding signedDecimal
-    plain-text above = go (ltb i (2 ^ 11)) refl
-      where
-        go : (t : Bool) → ltb i (2 ^ 11) ≡ t → signedDecimal i ≡ decimal size
-        go true q = rw (q, s, e, reads-plain i (ltb-true i _ q))
-        go false q =
-            absurd (false≢true (sym above ∙ ap (λ (z : ℤ). ltZ z (pos 0)) (e ∙ reads-negative i (ltb-false i _ q) fits)))
-
-    pub negative-length : ltZ z (pos 0) ≡ true → length (signedDecimal i) ≡ 1 + digitCount 10 size
-    negative-length below = rw (negative-text below, ← length-decimal size) (omega arith)
-
-    pub plain-length : ltZ z (pos 0) ≡ false → length (signedDecimal i) ≡ digitCount 10 size
-    plain-length above = rw (plain-text above, length-decimal)
+    pub signed-length : length (signedDecimal i) ≡ length (signOf z) + digitCount 10 size
+    signed-length = rw (signed-text, length-append, length-decimal)
 
 -- ---- a signed number without its sign
 
@@ -101,9 +87,15 @@ module _ (z : ℤ) (few : mag z < 2 ^ 12) where
     pub reads-magnitude : toZ w32 (ofZ w32 (pos 0 -ℤ toZ w32 (ofZ w32 z))) ≡ pos (natAbs z)
     reads-magnitude = rw taken-from-zero (toZ-pos w32 magnitude-lt)
 
+    pub minus : signOf z ≡ bytes "-"
+    minus = rw (rw held at below)
+
   -- From 0 on it is its magnitude itself.
   pub reads-itself : ltZ (toZ w32 (ofZ w32 z)) (pos 0) ≡ false → toZ w32 (ofZ w32 z) ≡ pos (natAbs z)
   reads-itself above = rw held (not-negated z (rw held at above))
+
+  pub no-sign : ltZ (toZ w32 (ofZ w32 z)) (pos 0) ≡ false → signOf z ≡ []
+  no-sign above = rw (rw held at above)
 
 -- ---- how long
 

@@ -4,3 +4,5 @@ pub mod ImmediateLaws
 pub mod LineLaws
 pub mod ListingLaws
 pub mod AnswerLaws
+pub mod CallLaws
+pub mod UsedLaws

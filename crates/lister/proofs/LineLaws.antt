@@ -1,5 +1,5 @@
 -- The line of a word: its length, and its pieces laid one after another. Assumes nothing.
-use Prim.Native.Nat.{ℕ, _+_, _≤_, _<_}
+use Prim.Native.Nat.{ℕ, _+_, _-_, _≤_, _<_}
 use mathlib.Core.Path.{_≡_, refl, _∙_, ap}
 use mathlib.Core.Bool.{Bool, true, false}
 use mathlib.Core.List.{List, [], _∷_, _++_, append-assoc}
@@ -18,8 +18,10 @@ use Rattle.isa.specs.Operations.{operationName}
 use Rattle.isa.specs.Registers.{registerName}
 use Rattle.isa.proofs.NameLaws.{no-operation, no-register}
 use Rattle.lister.specs.Listing.{signedDecimal, separated, listedLine}
+use Rattle.lister.specs.Pieces.{operationPiece, registerPiece, registerPieces, LaidWith}
 use Rattle.text.proofs.PieceLaws.{more, store-after}
 use Rattle.lister.proofs.ImmediateLaws.{immediate-most}
+use Rattle.lister.proofs.PieceLaws.{laid-more}
 
 -- ---- names
 
@@ -40,11 +42,6 @@ register-most n = go (ltb n 16) refl
     go : (t : Bool) → ltb n 16 ≡ t → length (registerName n) ≤ 5
     go true e = leb-true _ _ (below (λ k. leb (length (registerName k)) 5) 16 refl n (ltb-true n 16 e))
     go false e = rw (no-register n (ltb-false n 16 e)) (omega arith)
-
--- Each has three bytes at least.
-pub register-least : (n : ℕ) → n < 16 → 3 ≤ length (registerName n)
-unfolding registerName
-register-least n h = leb-true _ _ (below (λ k. leb 3 (length (registerName k))) 16 refl n h)
 
 -- ---- the length of a line
 
@@ -67,29 +64,47 @@ line-most w =
 
 -- ---- pieces
 
--- A register, and the comma and the blank after it.
-abbrev registerPiece : ℕ → List ℕ
-registerPiece n = registerName n ++ bytes ", "
+pub length-operation : (n : ℕ) → length (operationPiece n) ≡ length (operationName n) + 1
+length-operation n = length-append (operationName n) (bytes " ")
 
--- Four of them, and what stands after them.
-abbrev registerPieces : ℕ → ℕ → ℕ → ℕ → List ℕ → List ℕ
-registerPieces rd rs rt rm rest = registerPiece rd ++ (registerPiece rs ++ (registerPiece rt ++ (registerPiece rm ++ rest)))
+pub length-register : (n : ℕ) → length (registerPiece n) ≡ length (registerName n) + 2
+length-register n = length-append (registerName n) (bytes ", ")
+
+pub length-registers : (rd rs rt rm : ℕ)
+    → length (registerPieces rd rs rt rm) ≡ length (registerPiece rd) + length (registerPiece rs) + length (registerPiece rt) + length (registerPiece rm)
+length-registers rd rs rt rm = simp length-append (omega arith)
+
+-- The line of a word, with its LF, in pieces: 8 bytes at least.
+pub length-pieces : (w : ℕ) (f : Fields) → f ≡ fieldsOf w
+    → (length (listedLine w) + 1
+    ≡ length (operationPiece (f .op)) + length (registerPieces (f .rd) (f .rs) (f .rt) (f .rm)) + length (signedDecimal (f .imm1)) + length (signedDecimal (f .imm2)) + 3)
+    × (8 ≤ length (listedLine w) + 1)
+length-pieces w f e =
+    let whole = length-line w f e in
+    let registers = length-registers (f .rd) (f .rs) (f .rt) (f .rm) in
+    (omega (arith, length-operation (f .op), length-register (f .rd), length-register (f .rs), length-register (f .rt), length-register (f .rm)), omega arith)
+
+-- The shortest is as `$v0, `.
+pub register-least : (n : ℕ) → n < 16 → 5 ≤ length (registerPiece n)
+unfolding registerName
+register-least n h = leb-true _ _ (below (λ k. leb 5 (length (registerPiece k))) 16 refl n h)
+
+-- The bytes that have to be laid after a register fill eight with it: three are enough.
+pub register-laid : (n : ℕ) (d e : List ℕ) (at to : ℕ) → n < 16 → LaidWith (8 - length (registerPiece n)) d at (registerPiece n) e to → LaidWith 3 d at (registerPiece n) e to
+register-laid n d e at to named laid rest enough = laid rest (omega (arith, register-least n named))
+
+pub registers-laid : (rd rs rt rm at p q r s : ℕ) (d e f g h : List ℕ)
+    → LaidWith 3 d at (registerPiece rd) e p → LaidWith 3 e p (registerPiece rs) f q → LaidWith 3 f q (registerPiece rt) g r → LaidWith 3 g r (registerPiece rm) h s
+    → LaidWith 3 d at (registerPieces rd rs rt rm) h s
+registers-laid rd rs rt rm at p q r s d e f g h first second third last =
+    laid-more 3 3 d g h at r s (registerPiece rd ++ registerPiece rs ++ registerPiece rt) (registerPiece rm)
+    (laid-more 3 3 d f g at q r (registerPiece rd ++ registerPiece rs) (registerPiece rt)
+    (laid-more 3 3 d e f at p q (registerPiece rd) (registerPiece rs) first second (omega arith))
+    third (omega arith))
+    last (omega arith)
 
 abbrev immediatePieces : ℕ → ℕ → List ℕ
 immediatePieces imm1 imm2 = signedDecimal imm1 ++ bytes ", " ++ signedDecimal imm2 ++ (LF ∷ [])
-
-pub registers-laid : (rd rs rt rm at p q r : ℕ) (d e f g h : List ℕ) → rm < 16
-    → ((rest : List ℕ) → 8 ≤ length (registerName rd) + 2 + length rest → put e p rest ≡ put d at (registerPiece rd ++ rest))
-    → ((rest : List ℕ) → 8 ≤ length (registerName rs) + 2 + length rest → put f q rest ≡ put e p (registerPiece rs ++ rest))
-    → ((rest : List ℕ) → 8 ≤ length (registerName rt) + 2 + length rest → put g r rest ≡ put f q (registerPiece rt ++ rest))
-    → (s : ℕ) → ((rest : List ℕ) → 8 ≤ length (registerName rm) + 2 + length rest → put h s rest ≡ put g r (registerPiece rm ++ rest))
-    → (rest : List ℕ) → 3 ≤ length rest → put h s rest ≡ put d at (registerPieces rd rs rt rm rest)
-registers-laid rd rs rt rm at p q r d e f g h named first second third s last rest enough =
-    let least = register-least rm named in
-    last rest (omega arith)
-    ∙ third (registerPiece rm ++ rest) (simp length-append (omega arith))
-    ∙ second (registerPiece rt ++ (registerPiece rm ++ rest)) (simp length-append (omega arith))
-    ∙ first (registerPiece rs ++ (registerPiece rt ++ (registerPiece rm ++ rest))) (simp length-append (omega arith))
 
 pub immediates-laid : (imm1 imm2 at p q r : ℕ) (d e f g : List ℕ)
     → p ≡ at + length (signedDecimal imm1) → q ≡ p + 2 → r ≡ q + length (signedDecimal imm2)
@@ -103,12 +118,12 @@ immediates-laid imm1 imm2 at p q r d e f g pe qe re first second third =
 
 -- The line in pieces is the line.
 regroup : (o b c rd rs rt rm x y l : List ℕ)
-    → (o ++ b) ++ ((rd ++ c) ++ ((rs ++ c) ++ ((rt ++ c) ++ ((rm ++ c) ++ (x ++ c ++ y ++ l)))))
+    → (o ++ b) ++ (((rd ++ c) ++ (rs ++ c) ++ (rt ++ c) ++ (rm ++ c)) ++ (x ++ c ++ y ++ l))
     ≡ (o ++ (b ++ (rd ++ (c ++ (rs ++ (c ++ (rt ++ (c ++ (rm ++ (c ++ (x ++ (c ++ y)))))))))))) ++ l
 regroup o b c rd rs rt rm x y l = simp append-assoc
 
 line-is : (w : ℕ) (f : Fields) → f ≡ fieldsOf w
-    → (operationName (f .op) ++ bytes " ") ++ registerPieces (f .rd) (f .rs) (f .rt) (f .rm) (immediatePieces (f .imm1) (f .imm2)) ≡ listedLine w ++ (LF ∷ [])
+    → operationPiece (f .op) ++ (registerPieces (f .rd) (f .rs) (f .rt) (f .rm) ++ immediatePieces (f .imm1) (f .imm2)) ≡ listedLine w ++ (LF ∷ [])
 unfolding listedLine separated
 line-is w f e =
     rw e
@@ -116,13 +131,13 @@ line-is w f e =
     regroup (operationName (v .op)) (bytes " ") (bytes ", ") (registerName (v .rd)) (registerName (v .rs)) (registerName (v .rt)) (registerName (v .rm)) (signedDecimal (v .imm1)) (signedDecimal (v .imm2)) (LF ∷ []))
 
 pub line-laid : (w : ℕ) (v : Fields) (at p q : ℕ) (d e f g : List ℕ) → v ≡ fieldsOf w
-    → ((rest : List ℕ) → 8 ≤ length (operationName (v .op)) + 1 + length rest → put e p rest ≡ put d at ((operationName (v .op) ++ bytes " ") ++ rest))
-    → ((rest : List ℕ) → 3 ≤ length rest → put f q rest ≡ put e p (registerPieces (v .rd) (v .rs) (v .rt) (v .rm) rest))
+    → LaidWith (8 - length (operationPiece (v .op))) d at (operationPiece (v .op)) e p
+    → LaidWith 3 e p (registerPieces (v .rd) (v .rs) (v .rt) (v .rm)) f q
     → g ≡ put f q (immediatePieces (v .imm1) (v .imm2))
     → g ≡ put d at (listedLine w ++ (LF ∷ []))
 line-laid w v at p q d e f g decoded name registers immediates =
     let last = immediatePieces (v .imm1) (v .imm2) in
     immediates
     ∙ registers last (simp length-append (omega arith))
-    ∙ name (registerPieces (v .rd) (v .rs) (v .rt) (v .rm) last) (simp length-append (omega arith))
+    ∙ name (registerPieces (v .rd) (v .rs) (v .rt) (v .rm) ++ last) (simp length-append (omega arith))
     ∙ ap (put d at) (line-is w v decoded)

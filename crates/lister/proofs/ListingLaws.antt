@@ -11,7 +11,8 @@ use lib.Seq.{drop-cons}
 use borrow.Author.Tests.{le-leb, lt-leb, lt-ltb, le-ltb}
 use Rattle.text.specs.Lines.{LF, unlines}
 use Rattle.text.specs.Place.{put}
-use Rattle.text.specs.Questions.{Told, refused}
+use Rattle.text.specs.declared.Outcome.{Outcome}
+use Rattle.text.specs.Questions.{refused}
 use Rattle.text.proofs.PutLaws.{put-nil, put-append}
 use Rattle.isa.specs.declared.Fields.{Fields}
 use Rattle.isa.specs.Word.{fieldsOf}
@@ -63,7 +64,7 @@ module _ (ws : List ℕ) (i : ℕ) where
   lay-end out at h = rw (drop-of-length-le ws h, put-nil)
 
   -- .. and its opcode asked.
-  module _ (next : Told) (f : Fields) (inside : i < length ws) (e : f ≡ fieldsOf (getD ws i 0)) where
+  module _ (next : Outcome) (f : Fields) (inside : i < length ws) (e : f ≡ fieldsOf (getD ws i 0)) where
     pub unknown-turn : f .op ≤ 21 → firstUnknown (i + 1) (drop (i + 1) ws) next ≡ firstUnknown i (drop i ws) next
     unfolding firstUnknown
     unknown-turn known = rw (drop-word inside, le-leb _ 21 (rw e at known))
@@ -72,14 +73,14 @@ module _ (ws : List ℕ) (i : ℕ) where
     unfolding firstUnknown
     unknown-here unknown = rw (drop-word inside, lt-leb _ 21 (rw e at unknown))
 
-  pub unknown-past : (next : Told) → length ws ≤ i → firstUnknown i (drop i ws) next ≡ next
+  pub unknown-past : (next : Outcome) → length ws ≤ i → firstUnknown i (drop i ws) next ≡ next
   unfolding firstUnknown
   unknown-past next h = rw (drop-of-length-le ws h)
 
 -- ---- what the search for an unknown opcode returns
 
-pub found : (ws : List ℕ) (i : ℕ) (next : Told) → i < length ws → refused 16 i ≡ cond (ltb i (length ws)) (refused 16 i) next
+pub found : (ws : List ℕ) (i : ℕ) (next : Outcome) → i < length ws → refused 16 i ≡ cond (ltb i (length ws)) (refused 16 i) next
 found ws i next h = rw (lt-ltb i (length ws) h)
 
-pub not-found : (ws : List ℕ) (i : ℕ) (next : Told) → length ws ≤ i → next ≡ cond (ltb i (length ws)) (refused 16 i) next
+pub not-found : (ws : List ℕ) (i : ℕ) (next : Outcome) → length ws ≤ i → next ≡ cond (ltb i (length ws)) (refused 16 i) next
 not-found ws i next h = rw (le-ltb i (length ws) h)

@@ -1,6 +1,6 @@
 -- Words listed, computed, and each refusal.
 use mathlib.Core.Path.{_≡_, refl}
-use mathlib.Core.List.{List, [], _∷_, map}
+use mathlib.Core.List.{[], _∷_, map}
 use lib.ListN.{length, replicate}
 use Rattle.text.specs.Bytes.{bytes}
 use Rattle.text.specs.Questions.{accepted, refused}
@@ -9,7 +9,7 @@ use Rattle.text.specs.Lines.{unlines}
 use Rattle.isa.specs.Operations.{operationName}
 use Rattle.isa.specs.Registers.{registerName}
 use Rattle.lister.specs.Listing.{signedDecimal, separated, listedLine, listing}
-use Rattle.lister.specs.Calls.{firstUnknown, listTold}
+use Rattle.lister.specs.Calls.{firstUnknown, listOutcome}
 
 -- "sub with R8, R1, R2, R2 and 2, 3 encodes as 018122002003"; bits above 47 are not read.
 sub-line : map listedLine (0x018122002003 ∷ 0xFFFF018122002003 ∷ []) ≡ bytes "sub $t1, $imm1, $imm2, $imm2, 2, 3" ∷ bytes "sub $t1, $imm1, $imm2, $imm2, 2, 3" ∷ []
@@ -44,12 +44,12 @@ unfolding listing unlines listedLine separated signedDecimal decimal digits digi
 two-lines = refl
 
 -- L2: an empty part gives an empty text, for which no room is needed.
-empty-part : listTold [] 0 ≡ accepted 0
-unfolding listTold firstUnknown listing unlines
+empty-part : listOutcome [] 0 ≡ accepted 0
+unfolding listOutcome firstUnknown listing unlines
 empty-part = refl
 
 -- L3: 1, then 16 at the first bad word, then 15; a room of exactly the text's length is enough.
-refusals : listTold (replicate 4097 0) 0 ∷ listTold (0 ∷ 0x160000000000 ∷ 0xFF0000000000 ∷ []) 0 ∷ listTold (0 ∷ []) 36 ∷ listTold (0 ∷ []) 37 ∷ []
+refusals : listOutcome (replicate 4097 0) 0 ∷ listOutcome (0 ∷ 0x160000000000 ∷ 0xFF0000000000 ∷ []) 0 ∷ listOutcome (0 ∷ []) 36 ∷ listOutcome (0 ∷ []) 37 ∷ []
     ≡ refused 1 0 ∷ refused 16 1 ∷ refused 15 0 ∷ accepted 37 ∷ []
-unfolding listTold firstUnknown listing unlines listedLine separated signedDecimal decimal digits digitCount digitCountUpTo operationName registerName
+unfolding listOutcome firstUnknown listing unlines listedLine separated signedDecimal decimal digits digitCount digitCountUpTo operationName registerName
 refusals = refl

@@ -13,6 +13,7 @@ ghost use mir.Val.{toZ};
 ghost use Rattle.text.specs.Place.{put};
 ghost use Rattle.isa.specs.Word.{signExtended};
 ghost use Rattle.lister.specs.Listing.{signedDecimal};
+ghost use Rattle.lister.specs.Sign.{signOf};
 
 // The signed number that an immediate of 12 bits is.
 fn signed_immediate(immediate: u32) -> i32
@@ -30,14 +31,33 @@ fn magnitude(z: i32) -> u32
     if z < 0 { (0 - z) as u32 } else { z as u32 }
 }
 
+// How many bytes the sign of a number has.
+fn sign_length(z: i32) -> usize
+    requires { ⌜ mag z < 2 ^ 12 ⌝ }
+    ensures { λ r. ⌜ (r ≡ length (signOf z)) × (r ≤ 1) ⌝ }
+{
+    if z < 0 { 1 } else { 0 }
+}
+
+// Lays the sign of a number at a place and returns the place after it.
+fn put_sign(out: &mut [u8], at: usize, z: i32) -> usize
+    requires { ⌜ (mag z < 2 ^ 12) × (at + length (signOf z) ≤ length (now out)) ⌝ }
+    ensures { λ r. ⌜ (now (out .exit) ≡ put (now (out .entry)) at (signOf z)) × (r ≡ at + length (signOf z)) ⌝ }
+{
+    if z < 0 {
+        out[at] = b'-';
+        return at + 1;
+    }
+    at
+}
+
 // How many bytes an immediate has as a signed decimal; five at most.
 pub fn immediate_length(immediate: u32) -> usize
     requires { ⌜ immediate < 2 ^ 12 ⌝ }
     ensures { λ r. ⌜ (r ≡ length (signedDecimal immediate)) × (r ≤ 5) ⌝ }
 {
     let z = signed_immediate(immediate);
-    let digits = digit_count(magnitude(z) as u64);
-    if z < 0 { 1 + digits } else { digits }
+    sign_length(z) + digit_count(magnitude(z) as u64)
 }
 
 // Lays an immediate as a signed decimal at a place and returns the place after it.
@@ -46,10 +66,6 @@ pub fn put_immediate(out: &mut [u8], at: usize, immediate: u32) -> usize
     ensures { λ r. ⌜ (now (out .exit) ≡ put (now (out .entry)) at (signedDecimal immediate)) × (r ≡ at + length (signedDecimal immediate)) ⌝ }
 {
     let z = signed_immediate(immediate);
-    let size = magnitude(z) as u64;
-    if z < 0 {
-        out[at] = b'-';
-        return put_decimal(out, at + 1, size);
-    }
-    put_decimal(out, at, size)
+    let digits_at = put_sign(out, at, z);
+    put_decimal(out, digits_at, magnitude(z) as u64)
 }

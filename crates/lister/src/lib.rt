@@ -1,13 +1,17 @@
 // The lister: instruction words as assembly text. What it writes and what it answers stand in specs/.
+mod answers;
 mod immediates;
 mod lengths;
 mod line;
 mod listing;
 mod pieces;
+mod table;
+mod used;
 
 use crate::listing::first_unknown;
 use crate::listing::has_room;
 use crate::listing::lay_lines;
+pub use used::used_words;
 ghost use Rattle.lister.specs.Calls.{TextListed};
 
 // The words of an image, as many as can be listed at once.

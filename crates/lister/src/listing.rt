@@ -1,6 +1,7 @@
 // The passes over the words: the first unknown opcode, the length of the text, and the text itself.
 use crate::lengths::line_length;
 use crate::line::put_line;
+use crate::table::name_pieces;
 use isa::Fields;
 use isa::word::decode;
 ghost use mathlib.Core.Path.{_≡_};
@@ -9,7 +10,8 @@ ghost use Prim.Native.Nat.{_+_, _≤_};
 ghost use lib.Dec.{ltb, leb};
 ghost use lib.ListN.{length};
 ghost use Rattle.text.specs.Place.{put};
-ghost use Rattle.text.specs.Questions.{Told, refused};
+ghost use Rattle.text.specs.declared.Outcome.{Outcome};
+ghost use Rattle.text.specs.Questions.{refused};
 ghost use Rattle.files.specs.Sizes.{imageWords};
 ghost use Rattle.lister.specs.Listing.{listing};
 ghost use Rattle.lister.specs.Calls.{firstUnknown};
@@ -22,7 +24,7 @@ const MOST_LINE: usize = 46;
 
 // The place of the first word whose opcode names no operation; where there is none, how many words there are.
 pub fn first_unknown(words: &[u64]) -> usize
-    ensures { λ r. ⌜ ((next : Told) → firstUnknown 0 (now (words .entry)) next ≡ cond (ltb r (length (now (words .entry)))) (refused 16 r) next) ⌝ }
+    ensures { λ r. ⌜ ((next : Outcome) → firstUnknown 0 (now (words .entry)) next ≡ cond (ltb r (length (now (words .entry)))) (refused 16 r) next) ⌝ }
 {
     let mut i = 0;
     while i < words.len() {
@@ -40,10 +42,11 @@ fn text_length(words: &[u64]) -> usize
     requires { ⌜ length (now words) ≤ imageWords ⌝ }
     ensures { λ r. ⌜ r ≡ length (listing (now (words .entry))) ⌝ }
 {
+    let table = name_pieces();
     let mut total: usize = 0;
     let mut i = 0;
     while i < words.len() {
-        total += line_length(words[i]);
+        total += line_length(words[i], &table);
         i += 1;
     }
     total
@@ -65,10 +68,11 @@ pub fn lay_lines(words: &[u64], out: &mut [u8]) -> usize
     requires { ⌜ length (listing (now words)) ≤ length (now out) ⌝ }
     ensures { λ r. ⌜ (now (out .exit) ≡ put (now (out .entry)) 0 (listing (now (words .entry)))) × (r ≡ length (listing (now (words .entry)))) ⌝ }
 {
+    let table = name_pieces();
     let mut at = 0;
     let mut i = 0;
     while i < words.len() {
-        at = put_line(out, at, words[i]);
+        at = put_line(out, at, words[i], &table);
         i += 1;
     }
     at

@@ -10,7 +10,7 @@ use Rattle.isa.specs.Registers.{isListed, diskcmd, diskstatus, monitorcmd}
 use Rattle.words.specs.Words.{holds}
 use Rattle.machine.specs.State.{Machine}
 use Rattle.machine.specs.declared.Operands.{Operands}
-use Rattle.machine.specs.Interrupts.{isAsked, irq2Raised, interrupted}
+use Rattle.machine.specs.Interrupts.{isRequested, irq2Raised, interrupted}
 use Rattle.machine.specs.Execution.{fetched, operandsOf, address, isFree, isReadOrWrite, hasRoom, onward, begun, attempted, commanded, painted, outputted, executed, fetchedAndExecuted}
 use Rattle.machine.specs.Cycle.{timerStepped, diskStepped, counted, atFetch, stepped}
 use Rattle.machine.proofs.Choice.{either}
@@ -28,7 +28,7 @@ unfolding atFetch interrupted irq2Raised
 age-at-fetch hit m =
     let r = irq2Raised hit m in
     let raised = either (KeepsAge m) hit (record { same = refl }) (record { same = refl }) in
-    either (KeepsAge m) (isAsked (r .io) && eqb (r .core .handler) 0) (record { same = raised .same }) raised
+    either (KeepsAge m) (isRequested (r .io) && eqb (r .core .handler) 0) (record { same = raised .same }) raised
 
 -- .. a disk command, ..
 age-commanded : (low : ℕ) (m : Machine) → KeepsAge m (commanded low m)

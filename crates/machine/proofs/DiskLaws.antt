@@ -12,7 +12,7 @@ use Rattle.isa.specs.Operations.{Operation, operationOf, calculate, branch, jal
 use Rattle.isa.specs.Registers.{isListed, ioBits, diskcmd, diskstatus, diskbuffer, monitorcmd}
 use Rattle.words.specs.Words.{holds}
 use Rattle.machine.specs.State.{Machine, ioAt}
-use Rattle.machine.specs.Interrupts.{isAsked, irq2Raised, interrupted}
+use Rattle.machine.specs.Interrupts.{isRequested, irq2Raised, interrupted}
 use Rattle.machine.specs.declared.Operands.{Operands}
 use Rattle.machine.specs.Execution.{fetched, operandsOf, address, isFree, isReadOrWrite, onward, attempted, commanded, painted, outputted, executed, fetchedAndExecuted}
 use Rattle.machine.specs.Cycle.{isOutput, timerStepped, diskStepped, counted, atFetch, stepped, isCommand, acceptsAtFetch}
@@ -29,7 +29,7 @@ and-onward m s k = record { same = k .same }
 pub left-at-fetch : (hit : Bool) (m : Machine) → KeepsLeft m (atFetch hit m)
 unfolding atFetch interrupted irq2Raised
 left-at-fetch hit m =
-    let entry = either (KeepsLeft (irq2Raised hit m)) (isAsked (irq2Raised hit m .io) && eqb (irq2Raised hit m .core .handler) 0) (record { same = refl }) (record { same = refl }) in
+    let entry = either (KeepsLeft (irq2Raised hit m)) (isRequested (irq2Raised hit m .io) && eqb (irq2Raised hit m .core .handler) 0) (record { same = refl }) (record { same = refl }) in
     let raised = either (KeepsLeft m) (hit) (record { same = refl }) (record { same = refl }) in
     record { same = entry .same ∙ raised .same }
 

@@ -19,7 +19,7 @@ use Rattle.trace.specs.LogLines.{lineH, lineLD}
 use Rattle.trace.proofs.LengthLaws.{length-T, length-H, length-LD}
 use Rattle.machine.specs.declared.Operands.{Operands}
 use Rattle.machine.specs.State.{Machine}
-use Rattle.machine.specs.Interrupts.{isAsked, irq2Raised, interrupted}
+use Rattle.machine.specs.Interrupts.{isRequested, irq2Raised, interrupted}
 use Rattle.machine.specs.Execution.{fetched, registersOf, operandsOf, address}
 use Rattle.machine.specs.Cycle.{atFetch}
 use Rattle.machine.specs.Log.{changeLines, ioLines, linesAtFetch}
@@ -91,7 +91,7 @@ unfolding atFetch interrupted irq2Raised
 registers-at-fetch hit m =
     let r = irq2Raised hit m in
     let raised = either (KeepsRegisters m) hit (record { same = refl }) (record { same = refl }) in
-    either (KeepsRegisters m) (isAsked (r .io) && eqb (r .core .handler) 0) (record { same = raised .same }) raised
+    either (KeepsRegisters m) (isRequested (r .io) && eqb (r .core .handler) 0) (record { same = raised .same }) raised
 
 -- "At most 231 bytes are logged per cycle."
 pub lines-at-most : (image : List ℕ) (hit : Bool) (m : Machine) → length (m .regs) ≡ 13 → m .core .age < 2 ^ 40 → length (linesAtFetch image (atFetch hit m)) ≤ 231

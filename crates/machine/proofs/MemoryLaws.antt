@@ -15,7 +15,7 @@ use Rattle.isa.specs.Registers.{isListed, ioBits, diskcmd, diskstatus, diskbuff
 use Rattle.words.specs.Words.{holds, plus}
 use Rattle.machine.specs.declared.Core.{Core}
 use Rattle.machine.specs.State.{Machine, ioAt}
-use Rattle.machine.specs.Interrupts.{isAsked, irq2Raised, interrupted}
+use Rattle.machine.specs.Interrupts.{isRequested, irq2Raised, interrupted}
 use Rattle.machine.specs.declared.Operands.{Operands}
 use Rattle.machine.specs.Execution.{fetched, operandsOf, address, isFree, isReadOrWrite, sector, buffer, copied, attempted, commanded, painted, outputted, executed, fetchedAndExecuted}
 use Rattle.machine.specs.Cycle.{timerStepped, diskStepped, counted, atFetch, stepped}
@@ -42,7 +42,7 @@ lengths-at-fetch : (hit : Bool) (m : Machine) → KeepsLengths m (atFetch hit m)
 unfolding atFetch interrupted irq2Raised
 lengths-at-fetch hit m =
     and-then m (irq2Raised hit m) _ (either (KeepsLengths m) (hit) same same)
-    (either (KeepsLengths (irq2Raised hit m)) (isAsked (irq2Raised hit m .io) && eqb (irq2Raised hit m .core .handler) 0) same same)
+    (either (KeepsLengths (irq2Raised hit m)) (isRequested (irq2Raised hit m .io) && eqb (irq2Raised hit m .core .handler) 0) same same)
 
 lengths-copied : (command : ℕ) (m : Machine) → KeepsLengths m (copied command m)
 unfolding put
@@ -121,7 +121,7 @@ fits-at-fetch : (hit : Bool) (m : Machine) → Fits m → Fits (atFetch hit m)
 unfolding atFetch interrupted irq2Raised
 fits-at-fetch hit m h =
     let raised = either Fits (hit) (fits h) h in
-    either Fits (isAsked (irq2Raised hit m .io) && eqb (irq2Raised hit m .core .handler) 0) (fits raised) raised
+    either Fits (isRequested (irq2Raised hit m .io) && eqb (irq2Raised hit m .core .handler) 0) (fits raised) raised
 
 fits-copied : (command : ℕ) (m : Machine) → Fits m → Fits (copied command m)
 unfolding put

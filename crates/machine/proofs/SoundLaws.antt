@@ -18,7 +18,7 @@ use Rattle.devices.proofs.DiskLaws.{length-freed, free-disk}
 use Rattle.isa.specs.Word.{signExtended, fieldsOf}
 use Rattle.words.specs.Words.{holds, plus}
 use Rattle.machine.specs.State.{Machine, freshCore, registers, putRegister, ioAt, putIo, withPc, withStatus, withHandler, withLeft, withRegs, withIo}
-use Rattle.machine.specs.Interrupts.{isAsked, irq2Raised, interrupted}
+use Rattle.machine.specs.Interrupts.{isRequested, irq2Raised, interrupted}
 use Rattle.machine.specs.declared.Operands.{Operands}
 use Rattle.machine.specs.Execution.{fetched, operandsOf, address, isFree, isReadOrWrite, onward, jumped, ended, copied, begun, attempted, commanded, painted, outputted, executed, fetchedAndExecuted}
 use Rattle.machine.specs.Cycle.{acceptsAtFetch, atFetch, timerStepped, diskStepped, counted, stepped}
@@ -96,7 +96,7 @@ module _ (limit : ℕ) where
   sound-at-fetch hit m s =
       let raised = either (SoundMachine limit) (hit) (io-put m irq2status 1 (omega arith) (λ e. omega arith) (λ e. omega arith) s) s in
       let r = irq2Raised hit m in
-      either (SoundMachine limit) (isAsked (r .io) && eqb (r .core .handler) 0)
+      either (SoundMachine limit) (isRequested (r .io) && eqb (r .core .handler) 0)
       (handler-set _ 1 (omega arith)
       (pc-set _ (ioAt irqhandler r) (raised .record-is .fitting irqhandler)
       (io-put r irqreturn (r .core .pc) (raised .record-is .core .pc) (λ e. omega arith) (λ e. omega arith) raised)))

@@ -1,6 +1,6 @@
 -- One cycle of the plain machine: its seven steps.
-use Prim.Native.Nat.{ℕ, zero, suc, _+_, _-_, _%_, _^_}
-use mathlib.Core.Bool.{Bool, true, false, cond, not, _&&_, _||_}
+use Prim.Native.Nat.{ℕ, _+_, _-_, _%_, _^_}
+use mathlib.Core.Bool.{Bool, true, false, not, _&&_}
 use mathlib.Core.List.{List}
 use lib.Dec.{eqb}
 use Rattle.devices.specs.Timer.{timed}
@@ -69,10 +69,3 @@ isStopped m = not (eqb (m .core .status) 0)
 
 abbrev pub isAtLimit : Machine → Bool
 isAtLimit m = eqb (m .core .age) (2 ^ 40 - 1)
-
--- The plain machine after so many cycles, or fewer where it can make no more.
-unfoldable pub cycles : ℕ → List ℕ → List ℕ → Machine → Machine
-cycles zero image irq2 m = m
-cycles (suc n) image irq2 m =
-    let more = cycles n image irq2 (cycle image irq2 m) in
-    cond (isStopped m || isAtLimit m) m more

@@ -2,7 +2,7 @@
 use Prim.Native.Nat.{ℕ, _-_, _^_}
 use mathlib.Core.Path.{_≡_, refl}
 use mathlib.Core.Bool.{true, false}
-use mathlib.Core.List.{List, [], _∷_, _++_}
+use mathlib.Core.List.{List, [], _∷_, _++_, map}
 use lib.ListN.{getD, take, drop, replicate}
 use Rattle.text.specs.Bytes.{bytes}
 use Rattle.text.specs.Numerals.{digits, decimal, digitCount, digitCountUpTo}
@@ -12,10 +12,10 @@ use Rattle.devices.specs.Disk.{freed}
 use Rattle.isa.specs.Operations.{output, operationOf}
 use Rattle.isa.specs.Registers.{ioName, ioBits, diskcmd, disksector, diskbuffer, irq2enable, irq2status, irqhandler, irqreturn, leds, monitoraddr, monitordata, monitorcmd}
 use Rattle.trace.specs.LogLines.{registerFields, lineT, lineH, lineLD}
-use Rattle.machine.specs.State.{Machine, freshMachine, withHandler, withPc, withAge, withRegs, ioAt, putIo}
+use Rattle.machine.specs.State.{Machine, freshMachine, withStatus, withHandler, withPc, withAge, withRegs, ioAt, putIo}
 use Rattle.machine.specs.Interrupts.{isIn, irq2Raised, interrupted}
 use Rattle.machine.specs.Execution.{attempted, commanded, painted, outputted, executed, fetchedAndExecuted}
-use Rattle.machine.specs.Cycle.{timerStepped, diskStepped, counted, atFetch, stepped, cycle, isCommand, acceptsAtFetch, acceptsCommand, cycles}
+use Rattle.machine.specs.Cycle.{timerStepped, diskStepped, counted, atFetch, stepped, cycle, isCommand, acceptsAtFetch, acceptsCommand, isStopped, isAtLimit}
 use Rattle.machine.specs.Log.{changeLines, ioLines, linesAtFetch, cycleLines}
 
 -- ---- the program of two lines
@@ -122,34 +122,34 @@ irq2-by-age : ioAt irq2status (cycle (0 ∷ []) (7 ∷ []) (withAge 7 start)) �
 unfolding start stepped counted diskStepped timerStepped fetchedAndExecuted executed outputted commanded attempted painted atFetch interrupted irq2Raised isIn operationOf ioBits timed freed put
 irq2-by-age = refl
 
--- The lines and an accepted command are those of the machine after steps 1 and 2: irq2 asks in cycle 0, and its handler stands at 0x20.
-asked : Machine
-asked = putIo irq2enable 1 (putIo irqhandler 0x20 start)
+-- The lines and an accepted command are those of the machine after steps 1 and 2: irq2 requests an interrupt in cycle 0, and its handler stands at 0x20.
+requesting : Machine
+requesting = putIo irq2enable 1 (putIo irqhandler 0x20 start)
 
-line-of-handler : take 5 (cycleLines [] (0 ∷ []) asked) ≡ bytes "T 020"
-unfolding asked start linesAtFetch lineT registerFields ioLines atFetch interrupted irq2Raised isIn operationOf digits
+line-of-handler : take 5 (cycleLines [] (0 ∷ []) requesting) ≡ bytes "T 020"
+unfolding requesting start linesAtFetch lineT registerFields ioLines atFetch interrupted irq2Raised isIn operationOf digits
 line-of-handler = refl
 
-accepted-in-handler : acceptsCommand (replicate 0x20 0 ++ (0x14010200E001 ∷ [])) (0 ∷ []) asked ≡ true
-unfolding asked start acceptsAtFetch isCommand atFetch interrupted irq2Raised isIn operationOf
+accepted-in-handler : acceptsCommand (replicate 0x20 0 ++ (0x14010200E001 ∷ [])) (0 ∷ []) requesting ≡ true
+unfolding requesting start acceptsAtFetch isCommand atFetch interrupted irq2Raised isIn operationOf
 accepted-in-handler = refl
 
 not-accepted : acceptsCommand (0x14010200E001 ∷ []) [] (reader 3969) ≡ false
 unfolding reader acceptsAtFetch isCommand atFetch interrupted irq2Raised isIn operationOf
 not-accepted = refl
 
--- "it has stopped when its status is not 0, is at the cycle limit when its age is 2^40-1, and makes no cycle after either."
-stays-stopped : cycles 3 program [] start .core .age ≡ 2
-unfolding program start cycles stepped counted diskStepped timerStepped fetchedAndExecuted executed outputted commanded attempted painted atFetch interrupted irq2Raised isIn operationOf ioBits timed freed put
-stays-stopped = refl
+-- "it has stopped when its status is not 0, is at the cycle limit when its age is 2^40-1"
+stopped : map (λ (status : ℕ). isStopped (withStatus status start)) (0 ∷ 1 ∷ 2 ∷ 5 ∷ []) ≡ false ∷ true ∷ true ∷ true ∷ []
+unfolding start
+stopped = refl
 
-stays-at-limit : cycles 1 program [] (withAge (2 ^ 40 - 1) start) .core .age ≡ 2 ^ 40 - 1
-unfolding program start cycles stepped counted diskStepped timerStepped fetchedAndExecuted executed outputted commanded attempted painted atFetch interrupted irq2Raised isIn operationOf ioBits timed freed put
-stays-at-limit = refl
+at-limit : map (λ (age : ℕ). isAtLimit (withAge age start)) (0 ∷ (2 ^ 40 - 2) ∷ (2 ^ 40 - 1) ∷ []) ≡ false ∷ false ∷ true ∷ []
+unfolding start
+at-limit = refl
 
 -- ---- "Mistakes to exclude"
 
--- "clearing the status bits on entry": irq2 asks in cycle 0 at PC 5, irqreturn = PC, PC = irqhandler, the handler flag rises, and irq2status is
+-- "clearing the status bits on entry": irq2 requests an interrupt in cycle 0 at PC 5, irqreturn = PC, PC = irqhandler, the handler flag rises, and irq2status is
 -- still 1 after the cycle.
 entered : Machine
 entered = cycle (0 ∷ []) (0 ∷ []) (putIo irq2enable 1 (putIo irqhandler 0x20 (withPc 5 start)))

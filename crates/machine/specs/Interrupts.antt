@@ -16,14 +16,15 @@ isIn c (x ∷ xs) = eqb c x || isIn c xs
 unfoldable pub irq2Raised : Bool → Machine → Machine
 irq2Raised hit m = cond hit (putIo irq2status 1 m) m
 
--- "some enable and its status are both 1"
+-- An enable and its status "are both 1".
 abbrev pub areBoth : ℕ → ℕ → List ℕ → Bool
 areBoth enable status io = eqb (getD io enable 0) 1 && eqb (getD io status 0) 1
 
-abbrev pub isAsked : List ℕ → Bool
-isAsked io = areBoth irq0enable irq0status io || areBoth irq1enable irq1status io || areBoth irq2enable irq2status io
+-- "some enable and its status are both 1"
+abbrev pub isRequested : List ℕ → Bool
+isRequested io = areBoth irq0enable irq0status io || areBoth irq1enable irq1status io || areBoth irq2enable irq2status io
 
 -- "2. If some enable and its status are both 1 and the handler flag is down: irqreturn = PC, PC = irqhandler, the flag rises."
 unfoldable pub interrupted : Machine → Machine
 interrupted m =
-    cond (isAsked (m .io) && eqb (m .core .handler) 0) (withHandler 1 (withPc (ioAt irqhandler m) (putIo irqreturn (m .core .pc) m))) m
+    cond (isRequested (m .io) && eqb (m .core .handler) 0) (withHandler 1 (withPc (ioAt irqhandler m) (putIo irqreturn (m .core .pc) m))) m

@@ -2,5 +2,5 @@
 pub mod RecordLaws
 pub mod LoadLaws
 pub mod NameLaws
-pub mod StageLaws
+pub mod NewFileLaws
 pub mod BudgetLaws

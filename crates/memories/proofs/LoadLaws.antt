@@ -1,28 +1,34 @@
 -- What reading files that the operating system hands over leaves. Assumes nothing.
-use Prim.Native.Nat.{ℕ, _+_}
+use Prim.Native.Nat.{ℕ, _+_, _*_, _%_, _≤_, _<_}
 use mathlib.Core.Path.{_≡_, refl, sym, _∙_, ap}
-use mathlib.Core.Bool.{Bool, true, false}
+use mathlib.Core.Bool.{Bool, true, false, cond, _&&_}
 use mathlib.Core.List.{List, [], _∷_}
 use native.Mathlib.Omega.{arith}
-use lib.Dec.{eqb, ltb}
-use lib.ListN.{length}
-use borrow.Author.Tests.{eqb-true, ne-eqb}
-use Rattle.text.specs.Questions.{Told, accepted, firstBad}
+use lib.Dec.{eqb, leb, ltb}
+use lib.ListN.{length, take}
+use lib.Seq.{take-all, length-take-le}
+use borrow.Author.Tests.{eqb-true, leb-true}
+use Rattle.text.specs.declared.Outcome.{Outcome}
+use Rattle.text.specs.Questions.{accepted, firstBad}
 use Rattle.text.specs.Lines.{lines}
 use Rattle.text.proofs.QuestionLaws.{first-yes}
+use Rattle.text.proofs.Truth.{and-right}
 use Rattle.files.specs.declared.FileRead.{FileRead}
 use Rattle.files.specs.declared.CyclesRead.{CyclesRead}
-use Rattle.files.specs.MemoryFile.{isWord, wordQuestions, linesTold, readTold}
-use Rattle.files.specs.Irq2File.{irq2Told}
-use Rattle.files.specs.Answers.{fileReadTold, cyclesReadTold}
+use Rattle.files.specs.Sizes.{sectorWords, diskWords, isPartLength}
+use Rattle.files.specs.MemoryFile.{isWord, wordQuestions, linesOutcome, readOutcome}
+use Rattle.files.specs.Loaded.{FileLoaded}
+use Rattle.files.specs.Answers.{fileReadOutcome, cyclesReadOutcome}
 use Rattle.files.specs.Promises.{MemoryRead, Irq2Read}
-use Rattle.pieces.specs.declared.Told.{Told as Held}
-use Rattle.pieces.specs.Answers.{toldOf}
-use Rattle.pieces.proofs.CycleLaws.{are-cycles}
-use Rattle.pieces.proofs.FileLaws.{cycles-loaded, counted}
+use Rattle.files.proofs.CycleLaws.{are-cycles}
+use Rattle.files.proofs.CutLaws.{cut-read}
+use Rattle.files.proofs.LoadedLaws.{counted}
+use Rattle.memories.specs.declared.Count.{Count}
 use Rattle.memories.specs.declared.Count.the-variants.{Of, None}
-use Rattle.memories.specs.Loading.{Filled, Loaded}
-use Rattle.memories.specs.Cycles.{Counted, RiseIn}
+use Rattle.memories.specs.declared.FileLoad.{FileLoad}
+use Rattle.memories.specs.declared.FileLoad.the-variants.{Read, Unread}
+use Rattle.memories.specs.Loading.{FrontRead, LoadedFile, isLoaded, Loaded}
+use Rattle.memories.specs.Cycles.{CyclesFile, LoadedCycles, countOf, RiseIn}
 
 -- ---- a memory file
 
@@ -36,40 +42,73 @@ lines-accepted k room i (l ∷ ls) good =
     let word = first-yes 9 (i + 1) (isWord k l) _ (omega arith) (left .1) in
     rw (left .0, word .0) (lines-accepted k room (i + 1) ls (word .1))
 
-read-accepted : (k : ℕ) (isRight : ℕ → Bool) (n : ℕ) (text : List ℕ) → readTold k isRight n text .number ≡ 0 → readTold k isRight n text ≡ accepted 0
-unfolding readTold linesTold
+read-accepted : (k : ℕ) (isRight : ℕ → Bool) (n : ℕ) (text : List ℕ) → readOutcome k isRight n text .number ≡ 0 → readOutcome k isRight n text ≡ accepted 0
+unfolding readOutcome linesOutcome
 read-accepted k isRight n text good =
     let right = first-yes 1 0 (isRight n) _ (omega arith) good in
     rw (right .0) (lines-accepted k n 0 (lines text) (right .1))
 
-module _ {k : ℕ} {isRight : ℕ → Bool} {text before after : List ℕ} where
-  -- From its text, ..
-  pub filled : {a : FileRead} {r : Bool} → MemoryRead k isRight text before a after → (t : Held) → toldOf t ≡ fileReadTold a → r ≡ eqb (t .number) 0
-      → Filled k isRight text r before after
-  filled read t says e = record { answer = e ∙ ap (λ (u : Told). eqb (u .number) 0) (says ∙ read .answer); words = read .words }
+-- A part of the disk has at most as many words as the disk.
+pub part-most : (n : ℕ) → isPartLength n ≡ true → n ≤ diskWords
+part-most n e = leb-true n diskWords (and-right (eqb (n % sectorWords) 0 && leb sectorWords n) (leb n diskWords) e)
+
+module _ {k : ℕ} {isRight : ℕ → Bool} {before after : List ℕ} where
+  -- Of a memory of a wrong length every text is refused.
+  wrong-read : (a b : List ℕ) {r : FileRead} → isRight (length before) ≡ false → MemoryRead k isRight a before r after → MemoryRead k isRight b before r after
+  unfolding readOutcome
+  wrong-read a b wrong read = record { answer = read .answer ∙ rw wrong; words = rw wrong at (read .words) ∙ rw wrong }
+
+  -- Who reads the front of a text has read the text, ..
+  pub front-read : (buffer : List ℕ) (n : ℕ) {r : FileRead} {t : Outcome} → MemoryRead k isRight (take n buffer) before r after → t ≡ fileReadOutcome r
+      → (isRight (length before) ≡ true → length before * (k + 1) < length buffer) → FrontRead k isRight buffer n t before after
+  front-read buffer n {r} read says long whole front =
+      let all = go (isRight (length before)) refl in
+      let outcome = says ∙ all .answer in
+      record { outcome = outcome; words = rw outcome (all .words) }
+    where
+      go : (b : Bool) → isRight (length before) ≡ b → MemoryRead k isRight whole before r after
+      go true e = cut-read k isRight (length buffer) whole before r after (long e) (rw front at read)
+      go false e = wrong-read (take n buffer) whole e read
 
   -- .. which need not be named.
-  pub loaded : {r : Bool} → Filled k isRight text r before after → Loaded k isRight r before after
-  loaded {r} f = go r (f .answer)
+  pub file-read : (buffer : List ℕ) (n : ℕ) {t : Outcome} → n ≤ length buffer → FrontRead k isRight buffer n t before after → FileLoaded k isRight t before after
+  file-read buffer n h read =
+      let text = read (take n buffer) (sym (take-all (length buffer) (take n buffer) (rw (length-take-le n buffer h) h))) in
+      record { text = take n buffer; outcome = text .outcome; words = text .words }
+
+module _ (k : ℕ) (isRight : ℕ → Bool) (before after : List ℕ) where
+  pub loaded : (l : FileLoad) {r : Bool} → LoadedFile k isRight l before after → r ≡ isLoaded l → Loaded k isRight r before after
+  loaded (Read t) file e = rw e (go (eqb (t .number) 0) refl)
     where
-      go : (r : Bool) → r ≡ eqb (readTold k isRight (length before) text .number) 0 → Loaded k isRight r before after
+      go : (b : Bool) → eqb (t .number) 0 ≡ b → Loaded k isRight b before after
       go true e =
-          let told = read-accepted k isRight (length before) text (eqb-true (readTold k isRight (length before) text .number) 0 (sym e)) in
-          record { text = text; told = sym told; words = rw told at (f .words) }
-      go false e = f .words ∙ rw (← e)
+          let none = ap (λ (u : Outcome). u .number) (sym (file .outcome)) ∙ eqb-true (t .number) 0 e in
+          let outcome : t ≡ accepted 0 = file .outcome ∙ read-accepted k isRight (length before) (file .text) none in
+          record { text = file .text; outcome = sym outcome ∙ file .outcome; words = rw outcome at (file .words) }
+      go false e = file .words ∙ rw e
+  loaded Unread file e = rw e file
 
 -- ---- the irq2 file
 
-module _ {text before after : List ℕ} {a : CyclesRead} (read : Irq2Read text before a after) (t : Held) (says : toldOf t ≡ cyclesReadTold a) where
-  pub cycles-accepted : t .number ≡ 0 → Counted text (Of (t .count)) before after × RiseIn (Of (t .count)) before after
-  cycles-accepted none =
-      let told : toldOf t ≡ irq2Told (length before) text = says ∙ read .answer in
-      let rise = are-cycles text before a after read t says none in
-      let is : accepted (t .count) ≡ cyclesReadTold a = ap (λ (u : Told). accepted (u .count)) says ∙ sym (counted a (ap (λ (u : Told). u .number) (sym says) ∙ none)) in
-      (record { count = rw (← told, none); places = read .places }, (rise .0, rise .1, cycles-loaded read is))
+module _ {text before after : List ℕ} where
+  pub cycles-file : {a : CyclesRead} {t : Outcome} → Irq2Read text before a after → t ≡ cyclesReadOutcome a → CyclesFile text t before after
+  cycles-file {a} {t} read says =
+      let outcome = says ∙ read .answer in
+      record {
+        outcome = outcome;
+        places = rw outcome (read .places);
+        rise = are-cycles text before a after read t says;
+        counted = λ none. says ∙ counted a (ap (λ (u : Outcome). u .number) (sym says) ∙ none) ∙ ap (λ (u : Outcome). accepted (u .count)) (sym says);
+      }
 
-  pub cycles-refused : (t .number ≡ 0 → ⊥) → Counted text None before after × RiseIn None before after
-  cycles-refused some =
-      let told : toldOf t ≡ irq2Told (length before) text = says ∙ read .answer in
-      let no = ne-eqb (t .number) 0 some in
-      (record { count = rw (← told, no); places = read .places }, cycles-loaded read says .places ∙ rw no)
+pub rise-in : (before after : List ℕ) (l : FileLoad) {r : Count} → LoadedCycles l before after → r ≡ countOf l → RiseIn r before after
+rise-in before after (Read t) file e = rw e (go (eqb (t .number) 0) refl)
+  where
+    go : (b : Bool) → eqb (t .number) 0 ≡ b → RiseIn (cond b (Of (t .count)) None) before after
+    go true q =
+        let none = eqb-true (t .number) 0 q in
+        let is = file .1 .counted none in
+        let rise = file .1 .rise none in
+        (rise .0, rise .1, record { text = file .0; outcome = sym is ∙ file .1 .outcome; places = rw is at (file .1 .places) })
+    go false q = file .1 .places ∙ rw q
+rise-in before after Unread file e = rw e file

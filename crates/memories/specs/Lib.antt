@@ -5,4 +5,4 @@ pub mod Cycles
 pub mod Records
 pub mod Budget
 pub mod Names
-pub mod Staging
+pub mod NewFiles

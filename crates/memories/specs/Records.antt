@@ -7,19 +7,19 @@ use lib.Dec.{eqb}
 use Rattle.text.specs.Questions.{accepted}
 use Rattle.machine.specs.declared.Record.{Record}
 use Rattle.machine.specs.Soundness.{Sound}
-use Rattle.saved.specs.Calls.{freshRecord, loadTold, loadRecord}
+use Rattle.saved.specs.Calls.{freshRecord, loadOutcome, loadRecord}
 use Rattle.memories.specs.declared.RecordRead.{RecordRead}
 
 -- The record that these bytes hold is read where the definition of `saved` accepts them; else it is the fresh record (`loadRecord`). It is sound.
 pub record ReadFrom (bytes : List ℕ) (r : RecordRead) : Type 0 where
-  pub read : r .«is_read» ≡ eqb (loadTold bytes .number) 0
+  pub read : r .«is_read» ≡ eqb (loadOutcome bytes .number) 0
   pub is : r .state ≡ loadRecord bytes
   pub sound : Sound (r .state .core) (r .state .regs) (r .state .io)
 
 -- Of a file, whose bytes can't be named: the record that some bytes hold which the definition of `saved` accepts, ..
 pub record RecordLoaded (state : Record) : Type 0 where
   pub bytes : List ℕ
-  pub told : loadTold bytes ≡ accepted 0
+  pub outcome : loadOutcome bytes ≡ accepted 0
   pub is : state ≡ loadRecord bytes
 
 -- .. or, where none is read, the fresh record.

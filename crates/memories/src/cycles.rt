@@ -1,31 +1,59 @@
 // The irq2 list.
 use crate::Count;
-use crate::front::front;
+use crate::FileLoad;
+use crate::front::FRONT;
 use crate::front::read_front;
-use crate::front::refuse_at;
+use console::say_refusal;
 use files::read_irq2;
-use pieces::cycles_told;
-ghost use Rattle.memories.specs.Cycles.{Counted, RiseIn};
+use text::Outcome;
+ghost use mathlib.Core.Path.{_≡_};
+ghost use Rattle.memories.specs.Cycles.{CyclesFile, LoadedCycles, countOf, outcomeCount, RiseIn};
 
-// Reads the irq2 file that an argument names, of up to 16,384 cycles, and returns how many it has. They stand at the front then, and rise.
-pub fn load_irq2(i: usize, cycles: &mut [u64]) -> Count
-    ensures { λ r. ⌜ RiseIn r (now (cycles .entry)) (now (cycles .exit)) ⌝ }
+// Reads an irq2 file of up to 16,384 cycles, or as many as there is room for. They stand at the front then, and rise.
+pub fn load_irq2(path: &[u8], cycles: &mut [u64]) -> FileLoad
+    ensures { λ r. ⌜ LoadedCycles r (now (cycles .entry)) (now (cycles .exit)) ⌝ }
 {
-    let mut text = front();
-    if let Count::Of(n) = read_front(i, &mut text) {
-        return count_cycles(i, &text[..n], cycles);
+    let mut text = [0u8; FRONT];
+    if let Count::Of(n) = read_front(path, &mut text) {
+        return FileLoad::Read(fill_cycles(&text[..n], cycles));
     }
-    Count::None
+    FileLoad::Unread
 }
 
-// Reads the cycles of a text; none where it is refused, as is said.
-fn count_cycles(i: usize, text: &[u8], cycles: &mut [u64]) -> Count
-    ensures { λ r. ⌜ Counted (now (text .entry)) r (now (cycles .entry)) (now (cycles .exit)) × RiseIn r (now (cycles .entry)) (now (cycles .exit)) ⌝ }
+// Reads the cycles of a text.
+fn fill_cycles(text: &[u8], cycles: &mut [u64]) -> Outcome
+    ensures { λ r. ⌜ CyclesFile (now (text .entry)) r (now (cycles .entry)) (now (cycles .exit)) ⌝ }
 {
-    let told = cycles_told(read_irq2(text, cycles));
-    if told.number != 0 {
-        refuse_at(i, told.number, told.place);
+    read_irq2(text, cycles).outcome()
+}
+
+// Reads the irq2 file that an argument names, and returns how many cycles it has; none where it is refused, as is said.
+pub fn load_irq2_at(i: usize, cycles: &mut [u64]) -> Count
+    ensures { λ r. ⌜ RiseIn r (now (cycles .entry)) (now (cycles .exit)) ⌝ }
+{
+    let mut name = io::buffer();
+    let n = os::arg(i, &mut name);
+    let load = load_irq2(&name[..n], cycles);
+    count_of(&name[..n], load)
+}
+
+// How many cycles were read; none where the file is refused, as is said.
+fn count_of(path: &[u8], load: FileLoad) -> Count
+    ensures { λ r. ⌜ r ≡ countOf load ⌝ }
+{
+    match load {
+        FileLoad::Read(outcome) => outcome_count(path, outcome),
+        FileLoad::Unread => Count::None,
+    }
+}
+
+// The count of an outcome; none of a refusal, as is said.
+fn outcome_count(path: &[u8], outcome: Outcome) -> Count
+    ensures { λ r. ⌜ r ≡ outcomeCount outcome ⌝ }
+{
+    if outcome.number != 0 {
+        say_refusal(path, outcome.number, outcome.place);
         return Count::None;
     }
-    Count::Of(told.count)
+    Count::Of(outcome.count)
 }

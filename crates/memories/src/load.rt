@@ -1,89 +1,91 @@
-// The memories. Of each file at least so many bytes are read as decide how a file of any length is read: those of all the lines that it may have, and
-// one more (`cut-read` of `files`).
+// Memory files, by their paths. Of each at least so many bytes are read as decide how a file of any length is read: those of all the lines that it may
+// have, and one more.
 use crate::Count;
-use crate::front::front;
-use crate::front::is_accepted;
+use crate::FileLoad;
+use crate::front::FRONT;
 use crate::front::read_front;
 use files::read_data;
 use files::read_disk;
 use files::read_frame;
 use files::read_image;
-use pieces::file_told;
+use text::Outcome;
+ghost use Prim.Native.Nat.{_≤_, _<_};
+ghost use lib.ListN.{length};
 ghost use Rattle.files.specs.Sizes.{isImageLength, isDataLength, isFrameLength, isPartLength, imageDigits, wordDigits, frameDigits};
-ghost use Rattle.memories.specs.Loading.{Filled, Loaded};
+ghost use Rattle.memories.specs.Loading.{FrontRead, LoadedFile};
 
-// Reads the instruction file that an argument names, and answers whether it is accepted.
-pub fn load_image(i: usize, image: &mut [u64]) -> bool
-    ensures { λ r. ⌜ Loaded imageDigits isImageLength r (now (image .entry)) (now (image .exit)) ⌝ }
+// Reads an instruction file into the image.
+pub fn load_image(path: &[u8], image: &mut [u64]) -> FileLoad
+    ensures { λ r. ⌜ LoadedFile imageDigits isImageLength r (now (image .entry)) (now (image .exit)) ⌝ }
 {
-    let mut text = front();
-    if let Count::Of(n) = read_front(i, &mut text) {
-        return fill_image(i, &text[..n], image);
+    let mut text = [0u8; FRONT];
+    if let Count::Of(n) = read_front(path, &mut text) {
+        return FileLoad::Read(fill_image(&text, n, image));
     }
-    false
+    FileLoad::Unread
 }
 
-// Fills the image from the text of the file that an argument names, and answers whether the text is accepted; where not, says why and changes nothing.
-fn fill_image(i: usize, text: &[u8], image: &mut [u64]) -> bool
-    ensures { λ r. ⌜ Filled imageDigits isImageLength (now (text .entry)) r (now (image .entry)) (now (image .exit)) ⌝ }
+// Fills the image from a text of any length, of which the buffer holds the front in its first n bytes.
+fn fill_image(buffer: &[u8], n: usize, image: &mut [u64]) -> Outcome
+    requires { ⌜ (53248 < length (now buffer)) × (n ≤ length (now buffer)) ⌝ }
+    ensures { λ r. ⌜ FrontRead imageDigits isImageLength (now (buffer .entry)) n r (now (image .entry)) (now (image .exit)) ⌝ }
 {
-    let told = file_told(read_image(text, image));
-    is_accepted(i, told.number, told.place)
+    read_image(&buffer[..n], image).outcome()
 }
 
-// Reads the file of data in the same way.
-pub fn load_data(i: usize, memory: &mut [u32]) -> bool
-    ensures { λ r. ⌜ Loaded wordDigits isDataLength r (now (memory .entry)) (now (memory .exit)) ⌝ }
+// Reads a file of data in the same way.
+pub fn load_data(path: &[u8], memory: &mut [u32]) -> FileLoad
+    ensures { λ r. ⌜ LoadedFile wordDigits isDataLength r (now (memory .entry)) (now (memory .exit)) ⌝ }
 {
-    let mut text = front();
-    if let Count::Of(n) = read_front(i, &mut text) {
-        return fill_data(i, &text[..n], memory);
+    let mut text = [0u8; FRONT];
+    if let Count::Of(n) = read_front(path, &mut text) {
+        return FileLoad::Read(fill_data(&text, n, memory));
     }
-    false
+    FileLoad::Unread
 }
 
-// Fills the data memory from a text in the same way.
-fn fill_data(i: usize, text: &[u8], memory: &mut [u32]) -> bool
-    ensures { λ r. ⌜ Filled wordDigits isDataLength (now (text .entry)) r (now (memory .entry)) (now (memory .exit)) ⌝ }
+// Fills the data memory in the same way.
+fn fill_data(buffer: &[u8], n: usize, memory: &mut [u32]) -> Outcome
+    requires { ⌜ (36864 < length (now buffer)) × (n ≤ length (now buffer)) ⌝ }
+    ensures { λ r. ⌜ FrontRead wordDigits isDataLength (now (buffer .entry)) n r (now (memory .entry)) (now (memory .exit)) ⌝ }
 {
-    let answer = file_told(read_data(text, memory));
-    is_accepted(i, answer.number, answer.place)
+    read_data(&buffer[..n], memory).outcome()
 }
 
-// Reads the file of the whole disk in the same way.
-pub fn load_disk(i: usize, disk: &mut [u32]) -> bool
-    ensures { λ r. ⌜ Loaded wordDigits isPartLength r (now (disk .entry)) (now (disk .exit)) ⌝ }
+// Reads a file of the whole disk in the same way.
+pub fn load_disk(path: &[u8], disk: &mut [u32]) -> FileLoad
+    ensures { λ r. ⌜ LoadedFile wordDigits isPartLength r (now (disk .entry)) (now (disk .exit)) ⌝ }
 {
-    let mut text = front();
-    if let Count::Of(n) = read_front(i, &mut text) {
-        return fill_disk(i, &text[..n], disk);
+    let mut text = [0u8; FRONT];
+    if let Count::Of(n) = read_front(path, &mut text) {
+        return FileLoad::Read(fill_disk(&text, n, disk));
     }
-    false
+    FileLoad::Unread
 }
 
-// Fills the whole disk from a text in the same way.
-fn fill_disk(i: usize, text: &[u8], disk: &mut [u32]) -> bool
-    ensures { λ r. ⌜ Filled wordDigits isPartLength (now (text .entry)) r (now (disk .entry)) (now (disk .exit)) ⌝ }
+// Fills the disk in the same way.
+fn fill_disk(buffer: &[u8], n: usize, disk: &mut [u32]) -> Outcome
+    requires { ⌜ (147456 < length (now buffer)) × (n ≤ length (now buffer)) ⌝ }
+    ensures { λ r. ⌜ FrontRead wordDigits isPartLength (now (buffer .entry)) n r (now (disk .entry)) (now (disk .exit)) ⌝ }
 {
-    let told = file_told(read_disk(text, disk));
-    is_accepted(i, told.number, told.place)
+    read_disk(&buffer[..n], disk).outcome()
 }
 
-// Reads the file of the frame in the same way.
-pub fn load_frame(i: usize, frame: &mut [u8]) -> bool
-    ensures { λ r. ⌜ Loaded frameDigits isFrameLength r (now (frame .entry)) (now (frame .exit)) ⌝ }
+// Reads a file of the frame in the same way.
+pub fn load_frame(path: &[u8], frame: &mut [u8]) -> FileLoad
+    ensures { λ r. ⌜ LoadedFile frameDigits isFrameLength r (now (frame .entry)) (now (frame .exit)) ⌝ }
 {
-    let mut text = front();
-    if let Count::Of(n) = read_front(i, &mut text) {
-        return fill_frame(i, &text[..n], frame);
+    let mut text = [0u8; FRONT];
+    if let Count::Of(n) = read_front(path, &mut text) {
+        return FileLoad::Read(fill_frame(&text, n, frame));
     }
-    false
+    FileLoad::Unread
 }
 
-// Fills the frame from a text in the same way.
-fn fill_frame(i: usize, text: &[u8], frame: &mut [u8]) -> bool
-    ensures { λ r. ⌜ Filled frameDigits isFrameLength (now (text .entry)) r (now (frame .entry)) (now (frame .exit)) ⌝ }
+// Fills the frame in the same way.
+fn fill_frame(buffer: &[u8], n: usize, frame: &mut [u8]) -> Outcome
+    requires { ⌜ (196608 < length (now buffer)) × (n ≤ length (now buffer)) ⌝ }
+    ensures { λ r. ⌜ FrontRead frameDigits isFrameLength (now (buffer .entry)) n r (now (frame .entry)) (now (frame .exit)) ⌝ }
 {
-    let told = file_told(read_frame(text, frame));
-    is_accepted(i, told.number, told.place)
+    read_frame(&buffer[..n], frame).outcome()
 }

@@ -1,13 +1,15 @@
-// Files that arguments name, written.
+// Files that arguments name.
 use console::Writing;
 use console::abandon_file;
 use console::begin_file;
 use console::begin_more;
+use console::commit_file;
 use console::drop_file;
 use console::end_file;
 use console::is_missing;
-use console::keep_file;
-ghost use Rattle.console.specs.Writings.{Begun, Ended, Kept};
+use console::say_of;
+use console::say_refusal;
+ghost use Rattle.console.specs.Writings.{Begun, Ended, Committed};
 
 // Begins the file that an argument names.
 pub fn begin_at(i: usize) -> Writing
@@ -37,12 +39,12 @@ pub fn end_at(i: usize, w: Writing) -> Writing
 }
 
 // Puts it into the place of the old one, and answers whether it is there then.
-pub fn keep_at(i: usize, w: Writing) -> bool
-    ensures { λ r. ⌜ Kept w r ⌝ }
+pub fn commit_at(i: usize, w: Writing) -> bool
+    ensures { λ r. ⌜ Committed w r ⌝ }
 {
     let mut name = io::buffer();
     let n = os::arg(i, &mut name);
-    keep_file(&name[..n], w)
+    commit_file(&name[..n], w)
 }
 
 // Removes it where it is closed; the old one stays.
@@ -64,4 +66,18 @@ pub fn is_missing_at(i: usize) -> bool {
     let mut name = io::buffer();
     let n = os::arg(i, &mut name);
     is_missing(&name[..n])
+}
+
+// Says that the file that an argument names is refused.
+pub fn refuse_at(i: usize, number: u32, place: usize) {
+    let mut name = io::buffer();
+    let n = os::arg(i, &mut name);
+    say_refusal(&name[..n], number, place);
+}
+
+// Says words of the file that an argument names, after its name.
+pub fn say_at(i: usize, words: &[u8]) {
+    let mut name = io::buffer();
+    let n = os::arg(i, &mut name);
+    say_of(&name[..n], words);
 }

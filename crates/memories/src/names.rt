@@ -1,5 +1,5 @@
 // Names that arguments give.
-use crate::front::say_at;
+use crate::named::say_at;
 use text::same::are_same;
 use text::same::begins_with;
 ghost use mathlib.Core.Path.{_≡_};
@@ -7,15 +7,15 @@ ghost use mathlib.Core.Bool.{true};
 ghost use Prim.Native.Nat.{_+_, _^_, _<_};
 ghost use Rattle.memories.specs.Names.{isDevice, isNewOf, clash};
 
-// Whether one of the files that are written, which are the arguments from `first` on but for so many that are read, has the name of one before
-// it, or one is the other's `.new`; says so of the first that does. Devices may be named again.
-pub fn has_same(first: usize, read: usize, count: usize) -> bool
+// Whether the name of a file that is written clashes with that of one before it: the arguments from `first` on, of which so many are read. Says so
+// of the first that does.
+pub fn names_clash(first: usize, read: usize, count: usize) -> bool
     requires { ⌜ first + count < 2 ^ 64 ⌝ }
     ensures { λ r. ⌜ (r ≡ true → read < count) ⌝ }
 {
     let mut i = read;
     while i < count {
-        if is_given_again(first + i, first, i) {
+        if clashes_with_one(first + i, first, i) {
             return true;
         }
         i += 1;
@@ -23,14 +23,14 @@ pub fn has_same(first: usize, read: usize, count: usize) -> bool
     false
 }
 
-// Whether an argument gives the name of one of so many arguments from `first` on, or one is the other's `.new`; says so. Devices may be named again.
-pub fn is_given_again(i: usize, first: usize, count: usize) -> bool
+// Whether the name that an argument gives clashes with that of one of so many arguments from `first` on; says so.
+pub fn clashes_with_one(i: usize, first: usize, count: usize) -> bool
     requires { ⌜ first + count < 2 ^ 64 ⌝ }
     ensures { λ r. ⌜ (r ≡ true → 0 < count) ⌝ }
 {
     let mut k = 0;
     while k < count {
-        if gives_same(first + k, i) {
+        if arguments_clash(first + k, i) {
             say_at(i, b" is given for two files; nothing is written\n");
             return true;
         }
@@ -40,7 +40,7 @@ pub fn is_given_again(i: usize, first: usize, count: usize) -> bool
 }
 
 // Whether two arguments give names that clash.
-fn gives_same(i: usize, j: usize) -> bool {
+fn arguments_clash(i: usize, j: usize) -> bool {
     let mut first = io::buffer();
     let n = os::arg(i, &mut first);
     let mut second = io::buffer();

@@ -1,10 +1,10 @@
 // Saved records.
 use crate::Count;
 use crate::RecordRead;
-use crate::front::read_front;
-use crate::front::refuse_at;
-use crate::stage::stage_bytes;
-use crate::stage::unwritten;
+use crate::front::read_front_at;
+use crate::named::refuse_at;
+use crate::new_files::unwritten;
+use crate::new_files::write_new_bytes;
 use console::Writing;
 use machine::Record;
 use saved::LoadAnswer;
@@ -13,10 +13,10 @@ use saved::fresh_record;
 use saved::load;
 use saved::save;
 ghost use mathlib.Core.Path.{_≡_};
-ghost use Rattle.saved.specs.Answers.{loadedTold};
+ghost use Rattle.saved.specs.Answers.{loadedOutcome};
 ghost use Rattle.saved.specs.Sound.{isSound};
 ghost use Rattle.memories.specs.Records.{ReadFrom, SoundRead, FreshRead};
-ghost use Rattle.memories.specs.Staging.{Staged};
+ghost use Rattle.memories.specs.NewFiles.{NewWritten};
 
 // The bytes of a saved record.
 const BYTES: usize = 91;
@@ -25,11 +25,11 @@ const BYTES: usize = 91;
 const FRONT: usize = 92;
 
 // Reads the saved record that an argument names; the fresh record where it is refused, as is said.
-pub fn load_record(i: usize) -> RecordRead
+pub fn load_record_at(i: usize) -> RecordRead
     ensures { λ r. ⌜ SoundRead r ⌝ }
 {
     let mut bytes = [0u8; FRONT];
-    if let Count::Of(n) = read_front(i, &mut bytes) {
+    if let Count::Of(n) = read_front_at(i, &mut bytes) {
         return record_of(i, &bytes[..n]);
     }
     fresh(false)
@@ -55,7 +55,7 @@ fn record_of(i: usize, bytes: &[u8]) -> RecordRead
 
 // The number of a refusal; 0 of none.
 fn number_of(answer: LoadAnswer) -> u32
-    ensures { λ r. ⌜ r ≡ loadedTold answer .number ⌝ }
+    ensures { λ r. ⌜ r ≡ loadedOutcome answer .number ⌝ }
 {
     match answer {
         LoadAnswer::Loaded => 0,
@@ -76,13 +76,13 @@ pub fn fresh(is_read: bool) -> RecordRead
     }
 }
 
-// Stages a record under the name that an argument gives; says why where it is refused.
-pub fn stage_record(i: usize, state: Record) -> Writing
-    ensures { λ r. ⌜ Staged (isSound state) r ⌝ }
+// Writes a record as a new file, under the name that an argument gives; says why where it is refused.
+pub fn write_new_record(i: usize, state: Record) -> Writing
+    ensures { λ r. ⌜ NewWritten (isSound state) r ⌝ }
 {
     let mut bytes = [0u8; BYTES];
     match save(state, &mut bytes) {
-        Saved::Done => stage_bytes(i, &bytes),
+        Saved::Done => write_new_bytes(i, &bytes),
         Saved::WrongLength => unwritten(i, 1),
         Saved::Unsound => unwritten(i, 13),
     }

@@ -1,20 +1,21 @@
 -- The registers' names and numbers, and their lines, as the code lays them. Assumes nothing.
-use Prim.Native.Nat.{ℕ, _+_, _-_, _*_, _/_, _%_, _≤_, _<_}
-use mathlib.Core.Path.{_≡_, refl, sym, _∙_}
+use Prim.Native.Nat.{ℕ, _+_, _-_, _*_, _≤_, _<_}
+use mathlib.Core.Path.{_≡_, refl}
 use mathlib.Core.List.{List, [], _∷_, _++_, append-assoc}
 use native.Mathlib.Omega.{arith}
 use lib.Dec.{eqb}
-use lib.ListN.{length, getD, take, drop, length-append, length-drop}
-use lib.Seq.{getD-take, getD-drop, length-take-le, ext-getD}
+use lib.ListN.{length, getD, take, drop, length-append}
 use borrow.Author.Tests.{eqb-true}
 use Rattle.text.specs.Bytes.{bytes}
 use Rattle.text.specs.Lines.{LF}
 use Rattle.text.specs.Numerals.{digits}
 use Rattle.text.specs.Place.{put}
+use Rattle.text.specs.Same.{same}
 use Rattle.text.proofs.DigitLaws.{length-digits}
 use Rattle.text.proofs.Truth.{below, between}
+use Rattle.text.proofs.SameLaws.{table-rule}
 use Rattle.trace.specs.LogLines.{field}
-use Rattle.isa.specs.Registers.{registerNames, registerName}
+use Rattle.isa.specs.Registers.{registerName}
 use Rattle.outputs.specs.RecordText.{wordLine, savedRegisters, savedIo}
 use Rattle.outputs.proofs.PieceLaws.{Piece, joined}
 
@@ -31,25 +32,12 @@ abbrev pub names : List ℕ
 names = bytes "$v0$a0$a1$a2$t0$t1$t2$s0$s1$s2$gp$sp$ra"
 
 name-length : (i : ℕ) → i < 13 → length (registerName (3 + i)) ≡ 3
-unfolding registerName registerNames
+unfolding registerName
 name-length i h = eqb-true _ _ (below (λ k. eqb (length (registerName (3 + k))) 3) 13 refl i h)
 
-name-byte : (k : ℕ) → k < 39 → getD names k 0 ≡ getD (registerName (3 + k / 3)) (k % 3) 0
-unfolding registerName registerNames
-name-byte k h = eqb-true _ _ (below (λ n. eqb (getD names n 0) (getD (registerName (3 + n / 3)) (n % 3) 0)) 39 refl k h)
-
-pub name-part : (i : ℕ) → i < 13 → take 3 (drop (i * 3) names) ≡ registerName (3 + i)
-name-part i h =
-    let part : length (take 3 (drop (i * 3) names)) ≡ 3 = length-take-le 3 (drop (i * 3) names) (rw length-drop (omega arith)) in
-    ext-getD 0 (take 3 (drop (i * 3) names)) (registerName (3 + i)) (part ∙ sym (name-length i h)) each
-  where
-    each : (j : ℕ) → j < length (take 3 (drop (i * 3) names)) → getD (take 3 (drop (i * 3) names)) j 0 ≡ getD (registerName (3 + i)) j 0
-    each j l =
-        let part : length (take 3 (drop (i * 3) names)) ≡ 3 = length-take-le 3 (drop (i * 3) names) (rw length-drop (omega arith)) in
-        let low : j < 3 = omega arith in
-        let place : (i * 3 + j) / 3 ≡ i = omega arith in
-        let left : (i * 3 + j) % 3 ≡ j = omega arith in
-        getD-take 3 (drop (i * 3) names) j 0 low ∙ getD-drop (i * 3) names j 0 ∙ rw (place, left) at (name-byte (i * 3 + j) (omega arith))
+name-part : (i : ℕ) → i < 13 → take 3 (drop (i * 3) names) ≡ registerName (3 + i)
+unfolding registerName same
+name-part = table-rule (λ k. take 3 (drop (k * 3) names)) (λ k. registerName (3 + k)) 13 refl
 
 pub register-laid : (i x at p q : ℕ) (d e f : List ℕ) → i < 13 → Piece d at (take (i * 3 + 3 - i * 3) (drop (i * 3) names)) e p
     → f ≡ put e p (field (digits 16 8 x) ++ (LF ∷ [])) → q ≡ p + 10

@@ -4,5 +4,4 @@ pub mod WrittenNames
 pub mod WrittenNumbers
 pub mod ListedLine
 pub mod ListedText
-pub mod ListedCalls
 pub mod RoundTrip

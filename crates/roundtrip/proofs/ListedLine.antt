@@ -11,7 +11,7 @@ use Rattle.isa.specs.declared.Fields.{Fields}
 use Rattle.isa.specs.Word.{fieldsOf, wordOf}
 use Rattle.isa.specs.Operations.{operationName}
 use Rattle.isa.proofs.WordLaws.{decode-fits, encode-decode}
-use Rattle.source.specs.Bytes.{isAllowed, all, areRightBytes}
+use Rattle.source.specs.Bytes.{isAllowed, areAll, areRightBytes}
 use Rattle.source.specs.Tokens.{tokens, texts}
 use Rattle.source.specs.Numbers.{number, isNumber}
 use Rattle.text.specs.Same.{same}
@@ -20,17 +20,17 @@ use Rattle.source.specs.Shapes.{fits, matches, firstShape}
 use Rattle.lines.specs.declared.Form.the-variants.{Code}
 use Rattle.lines.specs.Line.{shapes, formOf, operand}
 use Rattle.lines.specs.Asked.{isKnown, areInRange}
-use Rattle.assembler.specs.Memories.{immediate, encoded}
+use Rattle.statements.specs.Encoding.{immediate, encoded}
 use Rattle.lister.specs.Listing.{operandTexts, listedLine}
 use Rattle.lister.specs.Calls.{lastOpcode}
-use Rattle.roundtrip.proofs.WrittenTokens.{and-no, AllWritten, reads-line, allowed-line, short-line}
+use Rattle.lister.proofs.LineLaws.{line-most}
+use Rattle.roundtrip.proofs.WrittenTokens.{and-no, AllWritten, reads-line, allowed-line}
 use Rattle.roundtrip.proofs.WrittenNames.{OperationToken, operation-token, RegisterToken, register-token}
 use Rattle.roundtrip.proofs.WrittenNumbers.{ImmediateToken, immediate-token}
 
 -- A line that is an instruction, good wherever it stands, and assembles to w.
 pub record Good (line : List ℕ) (w : ℕ) : Type 0 where
-  pub short : length line ≤ 45
-  pub allowed : all isAllowed line ≡ true
+  pub allowed : areAll isAllowed line ≡ true
   pub right-bytes : areRightBytes line ≡ true
   pub form : formOf line ≡ Code
   pub known : isKnown Code line ≡ true
@@ -54,13 +54,12 @@ module _ (f : Fields) (line op rd rs rt rm imm1 imm2 : List ℕ)
   has-word form lines =
       rw (form, found, is-op .place, is-rd .place, is-rs .place, is-rt .place, is-rm .place, is-imm1 .numeric, is-imm2 .numeric, is-imm1 .stored, is-imm2 .stored)
 
-  good-line : (w : ℕ) → wordOf f ≡ w → length line ≤ 45 → all isAllowed line ≡ true → Good line w
+  good-line : (w : ℕ) → wordOf f ≡ w → length line ≤ 45 → areAll isAllowed line ≡ true → Good line w
   unfolding areRightBytes isKnown areInRange
   good-line w e short allowed =
       let right : areRightBytes line ≡ true = rw (le-leb (length line) 500 (omega arith), allowed) in
       let form = has-form right in
       record {
-        short = short;
         allowed = allowed;
         right-bytes = right;
         form = form;
@@ -88,4 +87,4 @@ listed-good w h =
     let ts = operandTexts w in
     let ws : AllWritten ts = (rd .written, (rs .written, (rt .written, (rm .written, (imm1 .written, (imm2 .written, tt)))))) in
     good-line f (listedLine w) _ _ _ _ _ _ _ (reads-line name ts (op .written) ws 0) op rd rs rt rm imm1 imm2
-    (w % 2 ^ 48) (encode-decode w) (short-line name _ _ (op .short) ws) (allowed-line name ts (op .written) ws)
+    (w % 2 ^ 48) (encode-decode w) (line-most w) (allowed-line name ts (op .written) ws)

@@ -1,22 +1,22 @@
 -- What the assembler finds in a listed text. Assumes nothing.
-use Prim.Native.Nat.{ℕ, zero, suc, _+_, _*_, _%_, _^_, _≤_, _<_, suc-le-suc}
+use Prim.Native.Nat.{ℕ, zero, suc, _+_, _%_, _^_, _≤_, suc-le-suc}
 use mathlib.Core.Path.{_≡_, refl}
 use mathlib.Core.Bool.{Bool, true, false, cond}
 use mathlib.Core.List.{List, [], _∷_, map}
 use native.Mathlib.Omega.{arith}
-use lib.ListN.{length, getD, take, length-append}
+use lib.ListN.{length, take}
 use borrow.Author.Tests.{le-leb}
-use Rattle.text.specs.Questions.{Told, firstBad}
-use Rattle.text.specs.Lines.{LF, lines, unlines}
+use Rattle.text.specs.declared.Outcome.{Outcome}
+use Rattle.text.specs.Questions.{firstBad}
+use Rattle.text.specs.Lines.{lines}
 use Rattle.text.proofs.LineLaws.{NoneLF, lines-unlines}
 use Rattle.files.specs.MemoryFile.{low48}
-use Rattle.isa.specs.Word.{fieldsOf}
 use Rattle.lines.specs.Line.{formOf, hasCode}
-use Rattle.assembler.specs.Text.{codeCount}
-use Rattle.assembler.specs.Questions.{lineQuestions}
+use Rattle.labels.specs.Text.{codeCount}
+use Rattle.statements.specs.Questions.{lineQuestions}
 use Rattle.assembler.specs.Memories.{codeOf, stored}
+use Rattle.lister.specs.Calls.{KnownOpcodes}
 use Rattle.lister.specs.Listing.{listedLine, listing}
-use Rattle.roundtrip.specs.Demand2.{KnownOpcodes}
 use Rattle.roundtrip.proofs.WrittenTokens.{allowed-no-lf}
 use Rattle.roundtrip.proofs.ListedLine.{Good, listed-good}
 
@@ -38,15 +38,6 @@ pub listed-lines : (ws : List ℕ) → KnownOpcodes ws → lines (listing ws) �
 unfolding listing
 listed-lines ws known = lines-unlines (map listedLine ws) (none-lf ws known)
 
--- Each with its LF has at most 46 bytes.
-pub listed-length : (ws : List ℕ) → KnownOpcodes ws → length (listing ws) ≤ 46 * length ws
-unfolding listing unlines
-listed-length [] known = omega arith
-listed-length (w ∷ ws) known =
-    let short = first-good w ws known .short in
-    let rest = listed-length ws (rest-known w ws known) in
-    rw (length-append (listedLine w) (LF ∷ unlines (map listedLine ws))) (omega arith)
-
 -- ---- its questions
 
 -- At most i instructions stand on i lines.
@@ -61,7 +52,7 @@ count-le (suc i) (l ∷ ls) = go (hasCode (formOf l)) (count-le i ls)
     go false h = omega arith
 
 -- No line is bad, whatever the text is that they are lines of.
-pub no-line-bad : (all : List (List ℕ)) (i : ℕ) (ws : List ℕ) (t : Told) → KnownOpcodes ws → i + length ws ≤ 4096
+pub no-line-bad : (all : List (List ℕ)) (i : ℕ) (ws : List ℕ) (t : Outcome) → KnownOpcodes ws → i + length ws ≤ 4096
     → firstBad (λ i line. lineQuestions all (take i all) line) i (map listedLine ws) t ≡ t
 unfolding firstBad lineQuestions
 no-line-bad all i [] t known h = refl

@@ -1,5 +1,5 @@
 -- Listing and assembling (demand 2): "Listing an image with known opcodes and assembling the text yields that image". First of the lister's text and
--- what a good text gives, then of any two calls that keep the lister's and the assembler's promises. `KnownOpcodes words` (ListedText): each word's opcode
+-- what a good text gives, then of any two calls that keep the lister's and the assembler's promises. `KnownOpcodes words`: each word's opcode
 -- is at most 21. Assumes nothing.
 use Prim.Native.Nat.{ℕ, _-_, _≤_}
 use mathlib.Core.Path.{_≡_, sym, _∙_, ap}
@@ -14,31 +14,33 @@ use Rattle.files.specs.Sizes.{imageWords, dataWords}
 use Rattle.files.specs.MemoryFile.{low48, SameImage}
 use Rattle.files.proofs.ReturnTrip.{same-image-returns}
 use Rattle.assembler.specs.declared.Assembled.{Assembled}
-use Rattle.assembler.specs.Answers.{assembledTold}
-use Rattle.assembler.specs.Questions.{lineQuestions, textTold, assembleTold}
+use Rattle.assembler.specs.Answers.{assembledOutcome}
+use Rattle.statements.specs.Questions.{lineQuestions}
+use Rattle.assembler.specs.Questions.{textOutcome, assembleOutcome}
 use Rattle.assembler.specs.Memories.{codeOf, assembledImage, stored, assembledData}
 use Rattle.assembler.specs.Promises.{Assembling}
 use Rattle.lister.specs.declared.Listed.{Listed}
 use Rattle.lister.specs.Listing.{listing}
-use Rattle.lister.specs.Calls.{listedTold, listTold, TextListed}
-use Rattle.roundtrip.specs.Demand2.{KnownOpcodes, Demand2}
-use Rattle.roundtrip.proofs.ListedText.{listed-lines, listed-length, no-line-bad, listed-code, nothing-stored}
-use Rattle.roundtrip.proofs.ListedCalls.{all-known, accepted-is, text-in-front}
+use Rattle.lister.specs.Calls.{KnownOpcodes, listedOutcome, listOutcome, TextListed}
+use Rattle.lister.proofs.ListingLaws.{listing-most}
+use Rattle.roundtrip.specs.Demand2.{Demand2}
+use Rattle.roundtrip.proofs.ListedText.{listed-lines, no-line-bad, listed-code, nothing-stored}
+use Rattle.lister.proofs.CallLaws.{all-known, accepted-is, text-in-front}
 
 -- ---- of texts
 
 -- Words with known opcodes, no more than an image has, are listed where the text has room; ..
 pub known-listed : (words : List ℕ) (room : ℕ) → length words ≤ imageWords → KnownOpcodes words → length (listing words) ≤ room
-    → listTold words room ≡ accepted (length (listing words))
-unfolding listTold
+    → listOutcome words room ≡ accepted (length (listing words))
+unfolding listOutcome
 known-listed words room size known fits =
     rw (le-leb (length words) 4096 size) (all-known 0 words _ known ∙ rw (le-leb (length (listing words)) room fits))
 
 -- .. the assembler accepts their text; ..
-pub listing-accepted : (words : List ℕ) → length words ≤ imageWords → KnownOpcodes words → assembleTold (listing words) imageWords dataWords ≡ accepted 0
-unfolding assembleTold textTold
+pub listing-accepted : (words : List ℕ) → length words ≤ imageWords → KnownOpcodes words → assembleOutcome (listing words) imageWords dataWords ≡ accepted 0
+unfolding assembleOutcome textOutcome
 listing-accepted words size known =
-    let most = listed-length words known in
+    let most = listing-most words in
     let all = lines (listing words) in
     rw (le-leb (length (listing words)) 262144 (omega arith))
     (ap (λ (ls : List (List ℕ)). firstBad (λ i line. lineQuestions all (take i all) line) 0 ls (accepted 0)) (listed-lines words known)
@@ -74,23 +76,23 @@ listing-same-image words whole known = rw (listing-image words known) (same-imag
 -- memories are `imageAfter` and `memoryAfter`: the words, with zeros above bit 47, and zeros after them; and zeros. Of the words nothing is asked: that the
 -- lister accepted them tells that their opcodes are known.
 pub listed-assembles : (words out : List ℕ) (r : Listed) (after : List ℕ) (n : ℕ) (image memory : List ℕ) (a : Assembled) (imageAfter memoryAfter : List ℕ)
-    → TextListed words out r after → listedTold r ≡ accepted n
+    → TextListed words out r after → listedOutcome r ≡ accepted n
     → length image ≡ imageWords → length memory ≡ dataWords
     → Assembling (take n after) image memory a imageAfter memoryAfter
-    → (assembledTold a ≡ accepted 0) × (imageAfter ≡ low48 words ++ replicate (imageWords - length words) 0) × (memoryAfter ≡ replicate dataWords 0)
+    → (assembledOutcome a ≡ accepted 0) × (imageAfter ≡ low48 words ++ replicate (imageWords - length words) 0) × (memoryAfter ≡ replicate dataWords 0)
 listed-assembles words out r after n image memory a imageAfter memoryAfter listed good image-size data-size assembled =
     let is = accepted-is words (length out) n (sym (listed .answer) ∙ good) in
     let p = rw (text-in-front words out r after n listed good) at assembled in
-    let told : assembledTold a ≡ accepted 0 = rw (image-size, data-size) at (p .answer) ∙ listing-accepted words (is .size) (is .known) in
-    (told, rw told at (p .words) ∙ listing-image words (is .known), rw told at (p .data-words) ∙ listing-data words (is .known))
+    let outcome : assembledOutcome a ≡ accepted 0 = rw (image-size, data-size) at (p .answer) ∙ listing-accepted words (is .size) (is .known) in
+    (outcome, rw outcome at (p .words) ∙ listing-image words (is .known), rw outcome at (p .data-words) ∙ listing-data words (is .known))
 
 -- An image that was listed whole comes back.
 pub listed-image-returns : (words out : List ℕ) (r : Listed) (after : List ℕ) (n : ℕ) (image memory : List ℕ) (a : Assembled) (imageAfter memoryAfter : List ℕ)
-    → TextListed words out r after → listedTold r ≡ accepted n
+    → TextListed words out r after → listedOutcome r ≡ accepted n
     → length image ≡ imageWords → length memory ≡ dataWords
     → Assembling (take n after) image memory a imageAfter memoryAfter
     → length words ≡ imageWords
-    → (assembledTold a ≡ accepted 0) × SameImage imageAfter words
+    → (assembledOutcome a ≡ accepted 0) × SameImage imageAfter words
 listed-image-returns words out r after n image memory a imageAfter memoryAfter listed good image-size data-size assembled whole =
     let back = listed-assembles words out r after n image memory a imageAfter memoryAfter listed good image-size data-size assembled in
     (back .0, rw (back .1) (same-image words whole))
@@ -98,11 +100,10 @@ listed-image-returns words out r after n image memory a imageAfter memoryAfter l
 -- Demand 2 for listing and assembling, whole: with room for the text an image with known opcodes is listed, and its listing gives it back.
 pub demand2 : Demand2
 demand2 words out text image memory imageAfter memoryAfter r a whole known room listed image-size data-size assembled =
-    let most = listed-length words known in
-    let told : listedTold r ≡ accepted (length (listing words)) = listed .answer ∙ known-listed words (length out) (omega arith) known (omega arith) in
-    let back = listed-assembles words out r text (length (listing words)) image memory a imageAfter memoryAfter listed told image-size data-size assembled in
+    let outcome : listedOutcome r ≡ accepted (length (listing words)) = listed .answer ∙ known-listed words (length out) (omega arith) known room in
+    let back = listed-assembles words out r text (length (listing words)) image memory a imageAfter memoryAfter listed outcome image-size data-size assembled in
     record {
-      listed = told;
+      listed = outcome;
       assembled = back .0;
       same-image = rw (back .1) (same-image words whole);
       zero-data = back .2;

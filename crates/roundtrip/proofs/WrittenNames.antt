@@ -4,13 +4,12 @@ use mathlib.Core.Path.{_≡_, refl}
 use mathlib.Core.Bool.{true}
 use mathlib.Core.List.{List}
 use native.Mathlib.Omega.{arith}
-use lib.Dec.{eqb, leb}
-use lib.ListN.{length}
-use borrow.Author.Tests.{eqb-true, leb-true}
+use lib.Dec.{eqb}
+use borrow.Author.Tests.{eqb-true}
 use Rattle.text.proofs.Truth.{below}
 use Rattle.isa.specs.Operations.{operationNames, operationName}
 use Rattle.isa.specs.Registers.{registerNames, registerName}
-use Rattle.source.specs.Bytes.{all}
+use Rattle.source.specs.Bytes.{areAll}
 use Rattle.text.specs.Same.{same}
 use Rattle.source.specs.Names.{isName, isRegister}
 use Rattle.source.specs.Lookup.{isAmong, placeOf}
@@ -19,18 +18,16 @@ use Rattle.roundtrip.proofs.WrittenTokens.{Written, isWritten, is-writt
 -- A token that is written for the operation k.
 pub record OperationToken (k : ℕ) (t : List ℕ) : Type 0 where
   pub written : Written t
-  pub short : length t ≤ 4
   pub name : isName t ≡ true
   pub among : isAmong operationNames t ≡ true
   pub place : placeOf operationNames t ≡ k
 
 pub operation-token : (k : ℕ) → k ≤ 21 → OperationToken k (operationName k)
-unfolding operationName operationNames all isName isAmong placeOf same
+unfolding operationName operationNames areAll isName isAmong placeOf same
 operation-token k h =
     let known : k < 22 = omega arith in
     record {
       written = is-written (operationName k) (below (λ n. isWritten (operationName n)) 22 refl k known);
-      short = leb-true _ _ (below (λ n. leb (length (operationName n)) 4) 22 refl k known);
       name = below (λ n. isName (operationName n)) 22 refl k known;
       among = below (λ n. isAmong operationNames (operationName n)) 22 refl k known;
       place = eqb-true _ _ (below (λ n. eqb (placeOf operationNames (operationName n)) n) 22 refl k known);
@@ -44,7 +41,7 @@ pub record RegisterToken (k : ℕ) (t : List ℕ) : Type 0 where
   pub place : placeOf registerNames t ≡ k
 
 pub register-token : (k : ℕ) → k < 16 → RegisterToken k (registerName k)
-unfolding registerName registerNames all isRegister isAmong placeOf same
+unfolding registerName registerNames areAll isRegister isAmong placeOf same
 register-token k h =
     record {
       written = is-written (registerName k) (below (λ n. isWritten (registerName n)) 16 refl k h);

@@ -13,7 +13,7 @@ use Rattle.text.specs.Numerals.{isBetween, digitValue, allDigits, value, decima
 use Rattle.text.proofs.Truth.{and-left, and-right, allBelow, between}
 use Rattle.text.proofs.DecimalLaws.{count-pos, count-le, length-decimal, all-decimal, value-decimal}
 use Rattle.source.specs.declared.Number.the-variants.{Decimal, Minus}
-use Rattle.source.specs.Bytes.{all}
+use Rattle.source.specs.Bytes.{areAll}
 use Rattle.source.specs.Numbers.{number, isNumber}
 use Rattle.text.specs.Same.{same}
 use Rattle.lines.specs.Ranges.{isImmediate, modulo}
@@ -49,8 +49,8 @@ digit-passes test all-ten c e =
     let high = leb-true c 57 (and-right (leb 48 c) (leb c 57) within) in
     between test 48 58 all-ten c low (omega arith)
 
-plain-digits : (s : List ℕ) → allDigits 10 s ≡ true → all isPlain s ≡ true
-unfolding allDigits all
+plain-digits : (s : List ℕ) → allDigits 10 s ≡ true → areAll isPlain s ≡ true
+unfolding allDigits areAll
 plain-digits [] e = refl
 plain-digits (c ∷ s) e =
     let here = and-left (ltb (digitValue c) 10) (allDigits 10 s) e in
@@ -98,24 +98,21 @@ module _ (v : ℕ) (h : v < 10 ^ 4) where
   some : 1 ≤ length (decimal v)
   some = rw length-decimal (count-pos 10 (omega arith) v)
 
-  few : length (decimal v) ≤ 4
-  few = rw length-decimal (count-le 10 (omega arith) 3 v h)
-
-  few-enough : length (decimal v) ≤ 10
-  few-enough = omega (arith, few)
+  few : length (decimal v) ≤ 10
+  few = rw length-decimal (omega (arith, count-le 10 (omega arith) 3 v h))
 
   number-decimal : number (decimal v) ≡ Decimal v
-  number-decimal = number-digits (decimal v) some few-enough (all-decimal v) ∙ ap Decimal (value-decimal v)
+  number-decimal = number-digits (decimal v) some few (all-decimal v) ∙ ap Decimal (value-decimal v)
 
   number-minus-decimal : number (bytes "-" ++ decimal v) ≡ Minus v
-  number-minus-decimal = number-minus (decimal v) some few-enough (all-decimal v) ∙ ap Minus (value-decimal v)
+  number-minus-decimal = number-minus (decimal v) some few (all-decimal v) ∙ ap Minus (value-decimal v)
 
   written-decimal : Written (decimal v)
-  written-decimal = record { some = some; short = omega (arith, few); plain = plain-digits (decimal v) (all-decimal v) }
+  written-decimal = record { some = some; plain = plain-digits (decimal v) (all-decimal v) }
 
   written-minus-decimal : Written (bytes "-" ++ decimal v)
-  unfolding all
-  written-minus-decimal = record { some = omega arith; short = omega (arith, few); plain = plain-digits (decimal v) (all-decimal v) }
+  unfolding areAll
+  written-minus-decimal = record { some = omega arith; plain = plain-digits (decimal v) (all-decimal v) }
 
 pub immediate-token : (i : ℕ) → i < 2 ^ 12 → ImmediateToken i (signedDecimal i)
 unfolding signedDecimal

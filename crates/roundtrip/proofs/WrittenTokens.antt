@@ -1,18 +1,17 @@
 -- The tokens of a line that is written token by token. Assumes nothing.
-use Prim.Native.Nat.{ℕ, _+_, _*_, _≤_, _<_}
+use Prim.Native.Nat.{ℕ, _+_, _<_}
 use Prim.Native.Char.{code}
 use mathlib.Core.Path.{_≡_, refl, sym, _∙_, ap}
 use mathlib.Core.Bool.{Bool, true, false, not, _&&_, _||_, false≢true}
 use mathlib.Core.List.{List, [], _∷_, _++_, append-nil}
 use native.Mathlib.Nat.{not-suc-le-zero}
-use native.Mathlib.Omega.{arith}
-use lib.Dec.{eqb, ltb, leb}
-use lib.ListN.{length, length-append}
-use borrow.Author.Tests.{not-true, ltb-true, leb-true}
+use lib.Dec.{eqb, ltb}
+use lib.ListN.{length}
+use borrow.Author.Tests.{not-true, ltb-true}
 use Rattle.text.specs.Bytes.{bytes}
 use Rattle.text.proofs.Truth.{and-left, and-right, neither}
 use Rattle.text.proofs.LineLaws.{NoLF}
-use Rattle.source.specs.Bytes.{isBlank, isAllowed, all}
+use Rattle.source.specs.Bytes.{isBlank, isAllowed, areAll}
 use Rattle.source.specs.Tokens.{Token, closes, follows, joined, isJoined, tokensFrom, texts}
 use Rattle.lister.specs.Listing.{separated}
 
@@ -43,24 +42,24 @@ plain-byte b e =
 
 -- ---- each byte of a text
 
-pub all-append : (test : ℕ → Bool) (s t : List ℕ) → all test s ≡ true → all test t ≡ true → all test (s ++ t) ≡ true
-unfolding all
+pub all-append : (test : ℕ → Bool) (s t : List ℕ) → areAll test s ≡ true → areAll test t ≡ true → areAll test (s ++ t) ≡ true
+unfolding areAll
 all-append test [] t e f = f
-all-append test (b ∷ s) t e f = rw (and-left (test b) (all test s) e, all-append test s t (and-right (test b) (all test s) e) f)
+all-append test (b ∷ s) t e f = rw (and-left (test b) (areAll test s) e, all-append test s t (and-right (test b) (areAll test s) e) f)
 
-plain-allowed : (t : List ℕ) → all isPlain t ≡ true → all isAllowed t ≡ true
-unfolding all
+plain-allowed : (t : List ℕ) → areAll isPlain t ≡ true → areAll isAllowed t ≡ true
+unfolding areAll
 plain-allowed [] e = refl
 plain-allowed (b ∷ t) e =
-    rw (plain-byte b (and-left (isPlain b) (all isPlain t) e) .allowed, plain-allowed t (and-right (isPlain b) (all isPlain t) e))
+    rw (plain-byte b (and-left (isPlain b) (areAll isPlain t) e) .allowed, plain-allowed t (and-right (isPlain b) (areAll isPlain t) e))
 
 -- No allowed byte is an LF.
-pub allowed-no-lf : (t : List ℕ) → all isAllowed t ≡ true → NoLF t
-unfolding all NoLF
+pub allowed-no-lf : (t : List ℕ) → areAll isAllowed t ≡ true → NoLF t
+unfolding areAll NoLF
 allowed-no-lf [] e = tt
 allowed-no-lf (b ∷ t) e = (
-  (λ q. false≢true (sym (ap isAllowed q) ∙ and-left (isAllowed b) (all isAllowed t) e)),
-  allowed-no-lf t (and-right (isAllowed b) (all isAllowed t) e),
+  (λ q. false≢true (sym (ap isAllowed q) ∙ and-left (isAllowed b) (areAll isAllowed t) e)),
+  allowed-no-lf t (and-right (isAllowed b) (areAll isAllowed t) e),
 )
 
 -- ---- tokens
@@ -86,34 +85,31 @@ texts-joined : (p b : ℕ) (ts : List Token) (u : List ℕ) (us : List (List ℕ
 texts-joined p b [] u us e = cc
 texts-joined p b (t ∷ ts) u us e = cc
 
-reads-bytes : (b : ℕ) (t r : List ℕ) (ts : List (List ℕ)) → all isPlain (b ∷ t) ≡ true → stops r ≡ true → Reads r ts → Reads (b ∷ (t ++ r)) ((b ∷ t) ∷ ts)
-unfolding all tokensFrom
+reads-bytes : (b : ℕ) (t r : List ℕ) (ts : List (List ℕ)) → areAll isPlain (b ∷ t) ≡ true → stops r ≡ true → Reads r ts → Reads (b ∷ (t ++ r)) ((b ∷ t) ∷ ts)
+unfolding areAll tokensFrom
 reads-bytes b [] r ts e s h p =
     let plain = plain-byte b (and-left (isPlain b) true e) in
     rw (plain .blank, plain .comment, not-joined b r s, h (p + 1))
 reads-bytes b (c ∷ t) r ts e s h p =
-    let plain = plain-byte b (and-left (isPlain b) (all isPlain (c ∷ t)) e) in
-    let after = and-right (isPlain b) (all isPlain (c ∷ t)) e in
-    let next = plain-byte c (and-left (isPlain c) (all isPlain t) after) in
+    let plain = plain-byte b (and-left (isPlain b) (areAll isPlain (c ∷ t)) e) in
+    let after = and-right (isPlain b) (areAll isPlain (c ∷ t)) e in
+    let next = plain-byte c (and-left (isPlain c) (areAll isPlain t) after) in
     rw (plain .blank, plain .comment, plain .goes-on, next .follows-it)
     (texts-joined p b (tokensFrom (p + 1) (c ∷ (t ++ r))) (c ∷ t) ts (reads-bytes c t r ts after s h (p + 1)))
 
--- A text that is written as a token: some plain bytes, five at most.
+-- A text that is written as a token: some plain bytes.
 pub record Written (t : List ℕ) : Type 0 where
   pub some : 0 < length t
-  pub short : length t ≤ 5
-  pub plain : all isPlain t ≡ true
+  pub plain : areAll isPlain t ≡ true
 
 abbrev pub isWritten : List ℕ → Bool
-isWritten t = ltb 0 (length t) && leb (length t) 5 && all isPlain t
+isWritten t = ltb 0 (length t) && areAll isPlain t
 
 pub is-written : (t : List ℕ) → isWritten t ≡ true → Written t
 is-written t e =
-    let size = and-left (ltb 0 (length t) && leb (length t) 5) (all isPlain t) e in
     record {
-      some = ltb-true 0 (length t) (and-left (ltb 0 (length t)) (leb (length t) 5) size);
-      short = leb-true (length t) 5 (and-right (ltb 0 (length t)) (leb (length t) 5) size);
-      plain = and-right (ltb 0 (length t) && leb (length t) 5) (all isPlain t) e;
+      some = ltb-true 0 (length t) (and-left (ltb 0 (length t)) (areAll isPlain t) e);
+      plain = and-right (ltb 0 (length t)) (areAll isPlain t) e;
     }
 
 -- It is one token where a blank, a comma or the line's end follows it.
@@ -143,19 +139,11 @@ reads-separated (t ∷ u ∷ ts) w p =
     (λ q. ap (λ (us : List (List ℕ)). bytes "," ∷ us) (rest (q + 1 + 1)))
     p
 
-allowed-separated : (ts : List (List ℕ)) → AllWritten ts → all isAllowed (separated ts) ≡ true
-unfolding separated all
+allowed-separated : (ts : List (List ℕ)) → AllWritten ts → areAll isAllowed (separated ts) ≡ true
+unfolding separated areAll
 allowed-separated [] w = refl
 allowed-separated (t ∷ []) w = plain-allowed t (w .0 .plain)
 allowed-separated (t ∷ u ∷ ts) w = all-append isAllowed t _ (plain-allowed t (w .0 .plain)) (allowed-separated (u ∷ ts) (w .1))
-
-short-separated : (t : List ℕ) (ts : List (List ℕ)) → AllWritten (t ∷ ts) → length (separated (t ∷ ts)) ≤ 5 + 7 * length ts
-unfolding separated
-short-separated t [] w = let short = w .0 .short in omega arith
-short-separated t (u ∷ ts) w =
-    let short = w .0 .short in
-    let rest = short-separated u ts (w .1) in
-    rw (length-append t (bytes ", " ++ separated (u ∷ ts))) (omega arith)
 
 -- ---- a line: a token, a blank, and tokens so separated
 
@@ -164,11 +152,6 @@ module _ (op : List ℕ) (ts : List (List ℕ)) (o : Written op) (w : AllWritten
   unfolding tokensFrom
   reads-line = reads-token op (bytes " " ++ separated ts) (withCommas ts) o refl (λ p. reads-separated ts w (p + 1))
 
-  pub allowed-line : all isAllowed (op ++ (bytes " " ++ separated ts)) ≡ true
-  unfolding all
+  pub allowed-line : areAll isAllowed (op ++ (bytes " " ++ separated ts)) ≡ true
+  unfolding areAll
   allowed-line = all-append isAllowed op _ (plain-allowed op (o .plain)) (allowed-separated ts w)
-
-pub short-line : (op t : List ℕ) (ts : List (List ℕ)) → length op ≤ 4 → AllWritten (t ∷ ts) → length (op ++ (bytes " " ++ separated (t ∷ ts))) ≤ 10 + 7 * length ts
-short-line op t ts short w =
-    let rest = short-separated t ts w in
-    rw (length-append op (bytes " " ++ separated (t ∷ ts))) (omega arith)

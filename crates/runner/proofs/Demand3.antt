@@ -15,21 +15,29 @@ use Rattle.machine.specs.State.{Machine}
 use Rattle.machine.specs.Interrupts.{isIn}
 use Rattle.machine.proofs.AgeLaws.{age-after}
 use Rattle.claim.specs.Plain.{after, onward, Makes}
-use Rattle.claim.specs.Calls.{Call, Done, runTold, session, total, joined, final}
+use Rattle.claim.specs.Calls.{Call, Done, runOutcome, session, total, joined, final}
 use Rattle.claim.specs.Demand.{Demand3, Trace, plain}
 use Rattle.claim.proofs.Lists as Lists
 use Rattle.runner.specs.Lab.{simp, lab, codeOf, standingOf, Standing, Fresh}
-use Rattle.runner.proofs.LabLaws.{good-fresh, told-right, laws}
+use Rattle.runner.specs.RealCalls.{RealCalls}
+use Rattle.runner.proofs.Trips.{real-trace}
+use Rattle.runner.proofs.LabLaws.{good-fresh, outcome-right, laws}
 
 -- "This holds for every list of run calls, record saves read back, and memories written as text and read back, refused ones included, from a fresh
 -- record with one program, one interrupt list and any starting memories, whatever cycle budget and log space each run has."
 pub demand3 : (irq2 : List ℕ) (start : Standing) → Fresh start → (calls : List (Call lab)) → Demand3 lab irq2 start calls (session lab irq2 start calls)
 demand3 irq2 start fresh calls = Lists.demand3 lab laws irq2 start fresh calls
 
--- The same of what real calls reported and left, each of which meets its contract (`run` of this crate, and the trips in Trips).
+-- The same of any calls that tell and leave what the definitions say, ..
 pub demand3-met : (irq2 : List ℕ) (start : Standing) → Fresh start → (calls : List (Call lab)) (done : List (Done lab)) → Trace lab irq2 start calls done
     → Demand3 lab irq2 start calls done
 demand3-met irq2 start fresh calls done trace = Lists.demand3-met lab laws irq2 start fresh calls done trace
+
+-- .. and so of the real functions: of every list of calls of `run`, of `save` and `load`, and of the memories' writers and readers, each known by its
+-- own contract alone.
+pub demand3-real : (irq2 : List ℕ) (start : Standing) → Fresh start → {calls : List (Call lab)} {done : List (Done lab)} → RealCalls irq2 start calls done
+    → Demand3 lab irq2 start calls done
+demand3-real irq2 start fresh {calls} {done} made = demand3-met irq2 start fresh calls done (real-trace irq2 made)
 
 -- However a run is cut into calls: two lists that report as many cycles in total leave the same record and memories, the same image and the same
 -- joined log.
@@ -61,5 +69,5 @@ fresh-any image memory disk frame a b c d e f g =
     record { record-is = refl; image = a; data-words = b; disk-words = c; frame-bytes = d; memory-fits = e; disk-fits = f; frame-fits = g }
 
 -- .. and from there every run is accepted whose irq2 list rises strictly.
-pub accepts-runs : (irq2 : List ℕ) (start : Standing) → Fresh start → rising irq2 ≡ true → runTold lab irq2 start ≡ accepted 0
-accepts-runs irq2 start fresh up = told-right start (good-fresh start fresh) irq2 ∙ rw up
+pub accepts-runs : (irq2 : List ℕ) (start : Standing) → Fresh start → rising irq2 ≡ true → runOutcome lab irq2 start ≡ accepted 0
+accepts-runs irq2 start fresh up = outcome-right start (good-fresh start fresh) irq2 ∙ rw up

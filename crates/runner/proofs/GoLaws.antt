@@ -30,7 +30,7 @@ use Rattle.claim.proofs.Loop.{ask, Going, start, count, rest, same-length, next
 use Rattle.runner.specs.declared.Ended.{Ended}
 use Rattle.runner.specs.Lab.{simp, codeOf}
 use Rattle.runner.specs.Irq2Place.{PlaceOf, isAt}
-use Rattle.runner.specs.Answers.{ranTold, ranReason, reasonOf, EndsRun}
+use Rattle.runner.specs.Answers.{ranOutcome, ranReason, reasonOf, EndsRun}
 use Rattle.runner.proofs.Irq2Laws.{rises, in-by-place, next-place}
 
 -- ---- the room for a cycle's lines
@@ -68,10 +68,10 @@ module _ (image irq2 : List ℕ) (hit : Bool) (m : Machine) (is : isIn (m .core 
 abbrev answered : Bool → Bool → Bool → Bool → Option ℕ
 answered a b c d = cond a (some 1) (cond b (some 3) (cond c (some 0) (cond d (some 2) none)))
 
-abbrev told : Bool → Bool → Bool → ℕ
-told a b c = cond a 1 (cond b 3 (cond c 0 2))
+abbrev outcome : Bool → Bool → Bool → ℕ
+outcome a b c = cond a 1 (cond b 3 (cond c 0 2))
 
-reasoned : (a b c d : Bool) → (a ≡ false → b ≡ false → c ≡ false → d ≡ true) → answered a b c d ≡ some (told a b c)
+reasoned : (a b c d : Bool) → (a ≡ false → b ≡ false → c ≡ false → d ≡ true) → answered a b c d ≡ some (outcome a b c)
 reasoned true b c d h = refl
 reasoned false true c d h = refl
 reasoned false false true d h = refl
@@ -142,18 +142,18 @@ module _ (image irq2 : List ℕ) (s : Machine) (budget : ℕ) (log₀ : List ℕ
 
     -- Where a run ends.
     ends : ask simp (codeOf image irq2) budget (length log₀) n at now ≡ some (reasonOf (now .core) n budget)
-        → (e : Ended) (m : Machine) → m ≡ now → e .cycles ≡ n → e .at ≡ at → ranTold (e .answer) ≡ accepted 0 → ranReason (e .answer) ≡ reasonOf (now .core) n budget
+        → (e : Ended) (m : Machine) → m ≡ now → e .cycles ≡ n → e .at ≡ at → ranOutcome (e .answer) ≡ accepted 0 → ranReason (e .answer) ≡ reasonOf (now .core) n budget
         → EndsRun (codeOf image irq2) budget log₀ s e m log
     ends q e m same cycles place accept why =
         record {
-          told = accept;
+          outcome = accept;
           is = rw (same, cycles, place, why) (stop simp (codeOf image irq2) s budget log₀ n at now log (u .going) (reasonOf (now .core) n budget) q);
           count = rw place (count simp (codeOf image irq2) s budget log₀ n at now log (u .going));
           rest = rw place (rest simp (codeOf image irq2) s budget log₀ n at now log (u .going));
         }
 
     pub ends-last : now .core .age ≡ cond (ltb budget (cycleLimit - s .core .age)) (s .core .age + budget) cycleLimit → s .core .age + n ≡ now .core .age
-        → (e : Ended) (m : Machine) → m ≡ now → e .cycles ≡ n → e .at ≡ at → ranTold (e .answer) ≡ accepted 0 → ranReason (e .answer) ≡ reasonOf (now .core) n budget
+        → (e : Ended) (m : Machine) → m ≡ now → e .cycles ≡ n → e .at ≡ at → ranOutcome (e .answer) ≡ accepted 0 → ranReason (e .answer) ≡ reasonOf (now .core) n budget
         → EndsRun (codeOf image irq2) budget log₀ s e m log
     ends-last h k = ends (asks-last image irq2 budget n at (length log₀) now (u .within) (s .core .age) k (ltb budget (cycleLimit - s .core .age)) refl h)
 
@@ -169,7 +169,7 @@ module _ (image irq2 : List ℕ) (s : Machine) (budget : ℕ) (log₀ : List ℕ
           (ap (λ (ls : List ℕ). goes (now .core) (length ls) (length log - at)) (sym (lines-are image irq2 hit now is-hit)) ∙ sym e)
 
       pub ends-there : (t : Bool) → t ≡ false → t ≡ goes (now .core) (length (linesAtFetch image (atFetch hit now))) (length log - at)
-          → (e : Ended) (m : Machine) → m ≡ now → e .cycles ≡ n → e .at ≡ at → ranTold (e .answer) ≡ accepted 0 → ranReason (e .answer) ≡ reasonOf (now .core) n budget
+          → (e : Ended) (m : Machine) → m ≡ now → e .cycles ≡ n → e .at ≡ at → ranOutcome (e .answer) ≡ accepted 0 → ranReason (e .answer) ≡ reasonOf (now .core) n budget
           → EndsRun (codeOf image irq2) budget log₀ s e m log
       ends-there t stays is = ends (asks-some image irq2 budget n at (length log₀) now (u .within) (asked t is ∙ stays))
 

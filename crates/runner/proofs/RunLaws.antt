@@ -12,13 +12,13 @@ use Rattle.machine.specs.declared.Record.{Record}
 use Rattle.machine.specs.State.{Machine}
 use Rattle.executor.specs.Lent.{packed, Sized}
 use Rattle.saved.specs.Sound.{isSound}
-use Rattle.claim.specs.Calls.{Done, runFrom, runTold, ran, runCall}
+use Rattle.claim.specs.Calls.{none, Done, runFrom, runOutcome, ran, runCall}
 use Rattle.runner.specs.declared.Ended.{Ended}
 use Rattle.runner.specs.declared.RunAnswer.{RunAnswer}
 use Rattle.runner.specs.declared.RunReport.{RunReport}
 use Rattle.runner.specs.declared.RunAnswer.the-variants as RunAnswer
 use Rattle.runner.specs.Lab.{simp, lab, codeOf, recordIn, machineOf, standingOf, areLengths, Standing}
-use Rattle.runner.specs.Answers.{ranTold, ranReason, doneOf, EndsRun}
+use Rattle.runner.specs.Answers.{ranOutcome, ranReason, doneOf, EndsRun}
 
 -- ---- a run that is accepted
 
@@ -45,12 +45,13 @@ module _ (image irq2 memory disk frame log : List ℕ) (state : Record) (budget 
           (record { state = packed (e .core) regs' io' memory' disk' frame'; cycles = e .cycles; lines = take (e .at) log'; reason = ranReason (e .answer) })
       whole i =
           record {
-            told = x .told i;
+            outcome = x .outcome i;
             cycles = e .cycles;
             bytes = sym (x .count) i;
             reason = ranReason (e .answer);
             log = rest i;
             lent = record { image = image; state = record { core = e .core; regs = same i; io = io'; memory = memory'; disk = disk'; frame = frame' } };
+            trip-left = none;
           }
 
 -- ---- the questions
@@ -63,22 +64,22 @@ module _ (w : Standing) (irq2 log : List ℕ) (budget : ℕ) where
   run-accepted a b c d e = rw (a, b, c) e
 
   -- The first that gets a no.
-  pub told-length : areLengths w ≡ false → runTold lab irq2 w ≡ ranTold RunAnswer.WrongLength
-  told-length a = rw a
+  pub outcome-length : areLengths w ≡ false → runOutcome lab irq2 w ≡ ranOutcome RunAnswer.WrongLength
+  outcome-length a = rw a
 
-  pub told-rising : areLengths w ≡ true → rising irq2 ≡ false → runTold lab irq2 w ≡ ranTold RunAnswer.NotRising
-  told-rising a b = rw (a, b)
+  pub outcome-rising : areLengths w ≡ true → rising irq2 ≡ false → runOutcome lab irq2 w ≡ ranOutcome RunAnswer.NotRising
+  outcome-rising a b = rw (a, b)
 
-  pub told-unsound : areLengths w ≡ true → rising irq2 ≡ true → isSound (recordIn (w .state)) ≡ false → runTold lab irq2 w ≡ ranTold RunAnswer.Unsound
-  told-unsound a b c = rw (a, b, c)
+  pub outcome-unsound : areLengths w ≡ true → rising irq2 ≡ true → isSound (recordIn (w .state)) ≡ false → runOutcome lab irq2 w ≡ ranOutcome RunAnswer.Unsound
+  outcome-unsound a b c = rw (a, b, c)
 
 -- A run that is refused hands back what it was lent.
 module _ (image irq2 memory disk frame log : List ℕ) (state : Record) (budget : ℕ) (answer : RunAnswer) where
-  pub run-refused : runTold lab irq2 (standingOf image state memory disk frame) ≡ ranTold answer → eqb (ranTold answer .number) 0 ≡ false → ranReason answer ≡ 0
+  pub run-refused : runOutcome lab irq2 (standingOf image state memory disk frame) ≡ ranOutcome answer → eqb (ranOutcome answer .number) 0 ≡ false → ranReason answer ≡ 0
       → (r : RunReport) → (r .state ≡ state) × ((r .cycles ≡ 0) × ((r .bytes ≡ 0) × (r .answer ≡ answer)))
       → doneOf r image memory disk frame log ≡ runCall lab budget log irq2 (standingOf image state memory disk frame)
   unfolding runCall
-  run-refused told no-more reason r (s, (c, (b, a))) = rw (told, no-more, s, c, b, a, reason)
+  run-refused outcome no-more reason r (s, (c, (b, a))) = rw (outcome, no-more, s, c, b, a, reason)
 
 -- ---- tests
 

@@ -1,5 +1,4 @@
--- Return trips made by real calls: what the contracts of a writer and, where that accepts, of a reader promise is what demand 3 says of a trip. Assumes
--- nothing.
+-- Calls made by the real functions: what their contracts promise is what demand 3 says of a call. Assumes nothing.
 use Prim.Native.Nat.{ℕ}
 use mathlib.Core.Path.{_≡_, refl, _∙_, ap}
 use mathlib.Core.Bool.{Bool, true, false}
@@ -9,116 +8,108 @@ use lib.ListN.{length, take}
 use lib.Seq.{take-append-seam}
 use borrow.Author.Tests.{leb-true, eqb-true}
 use native.Mathlib.Omega.{arith}
-use Rattle.text.specs.Questions.{Told, unlessRefused}
-use Rattle.text.specs.Lines.{lines}
+use Rattle.text.specs.declared.Outcome.{Outcome}
+use Rattle.text.specs.Questions.{accepted, unlessRefused}
 use Rattle.text.proofs.PutLaws.{put-front}
 use Rattle.text.proofs.QuestionLaws.{first-yes}
-use Rattle.files.specs.declared.FileRead.{FileRead}
-use Rattle.files.specs.declared.Written.{Written}
-use Rattle.files.specs.Sizes.{imageDigits, wordDigits, frameDigits, isImageLength, isDataLength, isFrameLength, isPartLength, isDiskPart}
-use Rattle.files.specs.MemoryFile.{fileText, fileWords, sectorsOf}
-use Rattle.files.specs.MemoryFile.{writeTold as fileWrites, readTold as fileReads}
-use Rattle.files.specs.Promises.{MemoryRead, TextWritten}
-use Rattle.files.specs.Answers.{fileReadTold, writtenTold}
+use Rattle.files.specs.Sizes.{imageDigits, wordDigits, frameDigits, isImageLength, isDataLength, isFrameLength, isPartLength}
+use Rattle.files.specs.MemoryFile.{writeOutcome as fileWrites, readOutcome as fileReads}
 use Rattle.machine.specs.declared.Record.{Record}
-use Rattle.saved.specs.declared.Saved.{Saved}
-use Rattle.saved.specs.declared.Loaded.{Loaded}
-use Rattle.saved.specs.Answers.{savedTold, loadedTold}
 use Rattle.saved.specs.Layout.{savedBytes}
-use Rattle.saved.specs.Calls.{saveTold, saveBytes, loadTold, loadRecord}
-use Rattle.claim.specs.Calls.{Done, moved, refuse, tripCall}
-use Rattle.runner.specs.Lab.{lab, Standing, Kind, theRecord, theImage, theData, theFrame, theSectors, Carried, place}
-
--- What a trip tells and leaves: `wrote` and `got` are what its halves told, and `after` is what was read.
-abbrev pub tripDone : Standing → (k : Kind) → Told → Told → Carried k → Done lab
-tripDone w k wrote got after = unlessRefused wrote (unlessRefused got (moved lab (place k after w)) (refuse lab w [] got)) (refuse lab w [] wrote)
+use Rattle.saved.specs.Calls.{saveOutcome, saveBytes, loadOutcome, loadRecord}
+use Rattle.claim.specs.Calls.{Halves, halves, Done, Call, tripped, tripCall, call}
+use Rattle.claim.specs.Demand.{Trace, done, then}
+use Rattle.runner.specs.Lab.{lab, Standing, Kind, theRecord, theImage, theData, theFrame, theSectors, Carried, place, wroteFile, readFile}
+use Rattle.runner.specs.RealCalls.{TripMade, byRecord, byImage, byData, byFrame, bySectors, tripDone, Made, ran, ranOther, tripDoneBy, tripOtherBy, RealCalls, end, next}
 
 -- ---- a memory
 
--- A text `file` is written into `space`, which is `sent` then, and what was written is read into a slice, which is `after` then.
-module _ (digits : ℕ) (isRight : Bool) (isRight' : ℕ → Bool) (file space into : List ℕ) (w : Written) (sent : List ℕ) (r : FileRead) (after : List ℕ)
-    (p : TextWritten isRight file space w sent)
-    (q : writtenTold w .number ≡ 0 → MemoryRead digits isRight' (take (writtenTold w .count) sent) into r after) where
-  abbrev wrote : Told
+-- A text `file` is written into `space`, which is `sent` then; where that is accepted, what was written is read into a slice, which is `after` then.
+-- t and u are the outcomes.
+module _ (digits : ℕ) (isRight : Bool) (isRight' : ℕ → Bool) (file space into : List ℕ) (t : Outcome) (sent : List ℕ) (u : Outcome) (after : List ℕ) where
+  abbrev wrote : Outcome
   wrote = fileWrites isRight file (length space)
 
-  abbrev got : Told
-  got = fileReads digits isRight' (length into) file
+  -- What is read is what was written.
+  abbrev pub IsRead : List ℕ → Type 0
+  IsRead text = (u ≡ fileReads digits isRight' (length into) text) × (after ≡ readFile (fileReads digits isRight' (length into) text) text into)
 
-  -- Where the writer accepts, the text is what is read.
-  text-is : eqb (wrote .number) 0 ≡ true → take (writtenTold w .count) sent ≡ file
-  unfolding fileWrites
-  text-is e =
-      let accepts = eqb-true (wrote .number) 0 e in
-      let right = first-yes 1 0 isRight _ (omega arith) accepts in
-      let fits = first-yes 15 0 (leb (length file) (length space)) _ (omega arith) (right .1) in
-      let room = leb-true (length file) (length space) (fits .0) in
-      let count : writtenTold w .count ≡ length file = ap (λ (t : Told). t .count) (p .answer) ∙ rw (right .0, fits .0) in
-      rw (count, p .bytes, e, put-front space file room) (take-append-seam file _)
+  module _ (p : t ≡ wrote) (s : sent ≡ wroteFile wrote file space) (q : t .number ≡ 0 → IsRead (take (t .count) sent)) where
+    -- Where the writer accepts, the text is what is read.
+    text-is : eqb (wrote .number) 0 ≡ true → take (t .count) sent ≡ file
+    unfolding fileWrites
+    text-is e =
+        let accepts = eqb-true (wrote .number) 0 e in
+        let right = first-yes 1 0 isRight _ (omega arith) accepts in
+        let fits = first-yes 15 0 (leb (length file) (length space)) _ (omega arith) (right .1) in
+        let room = leb-true (length file) (length space) (fits .0) in
+        let count : t .count ≡ length file = ap (λ (o : Outcome). o .count) p ∙ rw (right .0, fits .0) in
+        rw (count, s, e, put-front space file room) (take-append-seam file _)
 
-  -- .. and it is read.
-  read : eqb (wrote .number) 0 ≡ true → MemoryRead digits isRight' (take (writtenTold w .count) sent) into r after
-  read e = q (ap (λ (t : Told). t .number) (p .answer) ∙ eqb-true (wrote .number) 0 e)
+    -- .. and it is read.
+    read : eqb (wrote .number) 0 ≡ true → IsRead file
+    read e = rw (text-is e) at (q (ap (λ (o : Outcome). o .number) p ∙ eqb-true (wrote .number) 0 e))
 
-  -- The trip goes by the definitions.
-  module _ (v : Standing) (put-in : List ℕ → Standing) where
-    abbrev outcome : Told → Told → List ℕ → Done lab
-    outcome t u words = unlessRefused t (unlessRefused u (moved lab (put-in words)) (refuse lab v [] u)) (refuse lab v [] t)
+    -- The trip goes by the definitions: `put-in` is what stands with words in their place, `left` what is left of the space and the slice.
+    module _ (v : Standing) (put-in : List ℕ → Standing) (left : List ℕ → List ℕ → Halves lab) where
+      abbrev leaves : Outcome → List ℕ → Outcome → List ℕ → Done lab
+      leaves x text y words =
+          unlessRefused x (unlessRefused y (tripped lab (accepted 0) (put-in words) (left text words)) (tripped lab y v (left text words))) (tripped lab x v (left text into))
 
-    pub goes-by : outcome (writtenTold w) (fileReadTold r) after ≡ outcome wrote got (fileWords (length into) (lines file))
-    goes-by = rw (p .answer) (go (eqb (wrote .number) 0) refl)
-      where
-        go : (t : Bool) → eqb (wrote .number) 0 ≡ t → outcome wrote (fileReadTold r) after ≡ outcome wrote got (fileWords (length into) (lines file))
-        go false e = rw e
-        go true e = rw (e, read e .answer, text-is e) (more (eqb (got .number) 0) refl (rw (text-is e) at (read e .words)))
-          where
-            more : (u : Bool) → eqb (got .number) 0 ≡ u → after ≡ unlessRefused got (fileWords (length into) (lines file)) into
-                → unlessRefused got (moved lab (put-in after)) (refuse lab v [] got) ≡ unlessRefused got (moved lab (put-in (fileWords (length into) (lines file)))) (refuse lab v [] got)
-            more true f h = rw f (ap (λ (l : List ℕ). moved lab (put-in l)) (h ∙ rw f))
-            more false f h = rw f
+      abbrev got : Outcome
+      got = fileReads digits isRight' (length into) file
 
--- The image, the data memory, the frame, and so many sectors of the disk from sector `first` on. `out` is what the writer is lent.
-module _ (v : Standing) (out space into : List ℕ) (w : Written) (sent : List ℕ) (r : FileRead) (after : List ℕ) where
-  pub image-trip : TextWritten (isImageLength (length out)) (fileText imageDigits out) space w sent
-      → (writtenTold w .number ≡ 0 → MemoryRead imageDigits isImageLength (take (writtenTold w .count) sent) into r after)
-      → tripDone v theImage (writtenTold w) (fileReadTold r) after ≡ tripCall lab v theImage out space into
-  unfolding tripCall
-  image-trip p q = goes-by imageDigits _ isImageLength (fileText imageDigits out) space into w sent r after p q v (λ l. place theImage l v)
-
-  pub data-trip : TextWritten (isDataLength (length out)) (fileText wordDigits out) space w sent
-      → (writtenTold w .number ≡ 0 → MemoryRead wordDigits isDataLength (take (writtenTold w .count) sent) into r after)
-      → tripDone v theData (writtenTold w) (fileReadTold r) after ≡ tripCall lab v theData out space into
-  unfolding tripCall
-  data-trip p q = goes-by wordDigits _ isDataLength (fileText wordDigits out) space into w sent r after p q v (λ l. place theData l v)
-
-  pub frame-trip : TextWritten (isFrameLength (length out)) (fileText frameDigits out) space w sent
-      → (writtenTold w .number ≡ 0 → MemoryRead frameDigits isFrameLength (take (writtenTold w .count) sent) into r after)
-      → tripDone v theFrame (writtenTold w) (fileReadTold r) after ≡ tripCall lab v theFrame out space into
-  unfolding tripCall
-  frame-trip p q = goes-by frameDigits _ isFrameLength (fileText frameDigits out) space into w sent r after p q v (λ l. place theFrame l v)
-
-  pub sectors-trip : (first sectors : ℕ) → TextWritten (isDiskPart (length out) first sectors) (fileText wordDigits (sectorsOf out first sectors)) space w sent
-      → (writtenTold w .number ≡ 0 → MemoryRead wordDigits isPartLength (take (writtenTold w .count) sent) into r after)
-      → tripDone v (theSectors first sectors) (writtenTold w) (fileReadTold r) after ≡ tripCall lab v (theSectors first sectors) out space into
-  unfolding tripCall
-  sectors-trip first sectors p q =
-      goes-by wordDigits _ isPartLength (fileText wordDigits (sectorsOf out first sectors)) space into w sent r after p q v (λ l. place (theSectors first sectors) l v)
+      pub goes-by : leaves t sent u after ≡ leaves wrote (wroteFile wrote file space) got (readFile got file into)
+      goes-by = rw (p, s) (go (eqb (wrote .number) 0) refl)
+        where
+          go : (b : Bool) → eqb (wrote .number) 0 ≡ b → leaves wrote (wroteFile wrote file space) u after ≡ leaves wrote (wroteFile wrote file space) got (readFile got file into)
+          go false e = rw e
+          go true e = rw (e, read e .0, read e .1)
 
 -- ---- the record
 
 -- A record is saved in `bytes`, which are `sent` then, and those are read.
-module _ (v : Standing) (r : Record) (bytes sent : List ℕ) (a : Saved) (l : Loaded) (into : Record)
-    (p : (savedTold a ≡ saveTold r bytes) × (sent ≡ saveBytes r bytes))
-    (q : savedTold a .number ≡ 0 → (loadedTold (l .answer) ≡ loadTold sent) × (l .state ≡ loadRecord sent)) where
-  pub record-trip : tripDone v theRecord (savedTold a) (loadedTold (l .answer)) (l .state) ≡ tripCall lab v theRecord r bytes into
+module _ (v : Standing) (r : Record) (bytes sent : List ℕ) (t u : Outcome) (state into : Record)
+    (p : (t ≡ saveOutcome r bytes) × (sent ≡ saveBytes r bytes))
+    (q : t .number ≡ 0 → (u ≡ loadOutcome sent) × (state ≡ loadRecord sent)) where
+  pub record-goes : tripDone v theRecord into t sent u state ≡ tripCall lab v theRecord r bytes into
   unfolding tripCall
-  record-trip = rw (p .0) (go (eqb (saveTold r bytes .number) 0) refl)
+  record-goes = rw (p .0) (go (eqb (saveOutcome r bytes .number) 0) refl)
     where
-      go : (t : Bool) → eqb (saveTold r bytes .number) 0 ≡ t
-          → tripDone v theRecord (saveTold r bytes) (loadedTold (l .answer)) (l .state)
-          ≡ tripDone v theRecord (saveTold r bytes) (loadTold (savedBytes r)) (loadRecord (savedBytes r))
-      go false e = rw e
+      go : (b : Bool) → eqb (saveOutcome r bytes .number) 0 ≡ b
+          → tripDone v theRecord into (saveOutcome r bytes) sent u state
+          ≡ tripDone v theRecord into (saveOutcome r bytes) (saveBytes r bytes) (loadOutcome (savedBytes r)) (loadRecord (savedBytes r))
+      go false e = rw (p .1, e)
       go true e =
           let is : sent ≡ savedBytes r = p .1 ∙ rw e in
-          let read = q (ap (λ (t : Told). t .number) (p .0) ∙ eqb-true (saveTold r bytes .number) 0 e) in
+          let read = q (ap (λ (o : Outcome). o .number) (p .0) ∙ eqb-true (saveOutcome r bytes .number) 0 e) in
           rw (e, read .0, read .1, is)
+
+-- ---- any call
+
+-- A trip that was made is the trip of the definitions, ..
+trip-made : (v : Standing) {k : Kind} {out : Carried k} {space : List ℕ} {into : Carried k} {wrote : Outcome} {sent : List ℕ} {got : Outcome} {after : Carried k}
+    → TripMade k out space into wrote sent got after → tripDone v k into wrote sent got after ≡ tripCall lab v k out space into
+unfolding tripCall
+trip-made v {out = out} {space = space} {into = into} {sent = sent} (byRecord a l p q) = record-goes v out space sent _ _ (l .state) into p q
+trip-made v {space = space} {into = into} {sent = sent} {after = after} (byImage w r p q) =
+    goes-by imageDigits _ isImageLength _ space into _ sent _ after (p .answer) (p .bytes) (λ h. (q h .answer, q h .words)) v (λ l. place theImage l v) (halves theImage)
+trip-made v {space = space} {into = into} {sent = sent} {after = after} (byData w r p q) =
+    goes-by wordDigits _ isDataLength _ space into _ sent _ after (p .answer) (p .bytes) (λ h. (q h .answer, q h .words)) v (λ l. place theData l v) (halves theData)
+trip-made v {space = space} {into = into} {sent = sent} {after = after} (byFrame w r p q) =
+    goes-by frameDigits _ isFrameLength _ space into _ sent _ after (p .answer) (p .bytes) (λ h. (q h .answer, q h .words)) v (λ l. place theFrame l v) (halves theFrame)
+trip-made v {space = space} {into = into} {sent = sent} {after = after} (bySectors {first} {sectors} w r p q) =
+    goes-by wordDigits _ isPartLength _ space into _ sent _ after (p .answer) (p .bytes) (λ h. (q h .answer, q h .words)) v
+    (λ l. place (theSectors first sectors) l v) (halves (theSectors first sectors))
+
+-- .. and so is any call, ..
+call-made : (irq2 : List ℕ) (w : Standing) {c : Call lab} {d : Done lab} → Made irq2 w c d → d ≡ call lab irq2 w c
+call-made irq2 w (ran budget log r memory disk frame logAfter e) = e
+call-made irq2 w (ranOther budget log other lent refusal r memory disk frame logAfter e) = e
+call-made irq2 w (tripDoneBy same t) = trip-made w t
+call-made irq2 w (tripOtherBy refusal t) = trip-made w t
+
+-- .. and any list of them.
+pub real-trace : (irq2 : List ℕ) {w : Standing} {cs : List (Call lab)} {ds : List (Done lab)} → RealCalls irq2 w cs ds → Trace lab irq2 w cs ds
+real-trace irq2 end = done
+real-trace irq2 {w} (next m more) = then (call-made irq2 w m) (real-trace irq2 more)

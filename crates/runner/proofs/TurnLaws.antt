@@ -9,14 +9,14 @@ use Rattle.machine.specs.State.{Machine}
 use Rattle.machine.specs.Cycle.{stepped}
 use Rattle.machine.specs.Log.{Traced, traced, tracedOn}
 use Rattle.machine.specs.Soundness.{Sound}
-use Rattle.executor.specs.Lent.{Kept, Sized, packed}
+use Rattle.executor.specs.Lent.{HaveText, Sized, packed}
 use Rattle.machine.proofs.SoundLaws.{SoundMachine, sound-cycle}
 use Rattle.machine.proofs.MemoryLaws.{KeepsLengths, lengths-kept}
 
 -- What a cycle asks of the parts that it is lent.
 pub record Turning (c : Core) (regs text io memory disk frame : List ℕ) : Type 0 where
   pub sound : Sound c (drop 3 regs) io
-  pub kept : Kept regs text
+  pub kept : HaveText regs text
   pub sized : Sized memory disk frame
 
 module _ (image : List ℕ) (hit : Bool) (m n : Machine) (log log' : List ℕ) (at at' : ℕ) (e : traced n log' at' ≡ tracedOn image hit (traced m log at)) (s : SoundMachine (2 ^ 40) m) where
@@ -34,7 +34,7 @@ module _ (image : List ℕ) (hit : Bool) (m n : Machine) (log log' : List ℕ) (
 pub turn : (image : List ℕ) (hit : Bool) (c d : Core) (regs regs' text text' io io' memory memory' disk disk' frame frame' log log' : List ℕ) (at at' : ℕ)
     → Turning c regs text io memory disk frame
     → c .age < 2 ^ 40 - 1
-    → Kept regs' text'
+    → HaveText regs' text'
     → traced (packed d regs' io' memory' disk' frame') log' at' ≡ tracedOn image hit (traced (packed c regs io memory disk frame) log at)
     → Turning d regs' text' io' memory' disk' frame'
 turn image hit c d regs regs' text text' io io' memory memory' disk disk' frame frame' log log' at at' r young k e =

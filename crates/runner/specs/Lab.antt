@@ -4,13 +4,14 @@ use mathlib.Core.Path.{_≡_}
 use mathlib.Core.Bool.{Bool, not, _&&_}
 use mathlib.Core.List.{List, [], _∷_}
 use lib.ListN.{length}
-use Rattle.text.specs.Questions.{Question, Told}
+use Rattle.text.specs.declared.Outcome.{Outcome}
+use Rattle.text.specs.Questions.{Question, unlessRefused}
 use Rattle.text.specs.Place.{put}
 use Rattle.text.specs.Ranges.{Below}
 use Rattle.text.specs.Lines.{lines}
 use Rattle.files.specs.Sizes.{imageWords, dataWords, diskWords, frameBytes, sectorWords, diskSectors, imageDigits, wordDigits, frameDigits, isImageLength, isDataLength, isDiskLength, isFrameLength, isPartLength, isDiskPart}
 use Rattle.files.specs.MemoryFile.{low48, fileText, fileWords, sectorsOf}
-use Rattle.files.specs.MemoryFile.{readTold as fileReads, writeTold as fileWrites}
+use Rattle.files.specs.MemoryFile.{readOutcome as fileReads, writeOutcome as fileWrites}
 use Rattle.files.specs.Irq2File.{rising}
 use Rattle.machine.specs.declared.Record.{Record}
 use Rattle.machine.specs.State.{Machine, freshMachine, withMemory, withDisk, withFrame}
@@ -19,7 +20,7 @@ use Rattle.machine.specs.Cycle.{cycle, acceptsCommand, isStopped, isAtLimit}
 use Rattle.machine.specs.Log.{cycleLines}
 use Rattle.saved.specs.Layout.{recordBytes, savedBytes}
 use Rattle.saved.specs.Sound.{isSound}
-use Rattle.saved.specs.Calls.{saveTold, loadTold, loadRecord}
+use Rattle.saved.specs.Calls.{freshRecord, saveOutcome, saveBytes, loadOutcome, loadRecord}
 use Rattle.claim.specs.Plain.{Machine as AnyMachine}
 use Rattle.claim.specs.Calls.{World, Lab}
 
@@ -126,27 +127,50 @@ textOf theData memory = fileText wordDigits memory
 textOf theFrame frame = fileText frameDigits frame
 textOf (theSectors first sectors) disk = fileText wordDigits (sectorsOf disk first sectors)
 
-abbrev pub writeTold : (k : Kind) → Carried k → List ℕ → Told
-writeTold theRecord r space = saveTold r space
-writeTold theImage image space = fileWrites (isImageLength (length image)) (textOf theImage image) (length space)
-writeTold theData memory space = fileWrites (isDataLength (length memory)) (textOf theData memory) (length space)
-writeTold theFrame frame space = fileWrites (isFrameLength (length frame)) (textOf theFrame frame) (length space)
-writeTold (theSectors first sectors) disk space =
+abbrev pub writeOutcome : (k : Kind) → Carried k → List ℕ → Outcome
+writeOutcome theRecord r space = saveOutcome r space
+writeOutcome theImage image space = fileWrites (isImageLength (length image)) (textOf theImage image) (length space)
+writeOutcome theData memory space = fileWrites (isDataLength (length memory)) (textOf theData memory) (length space)
+writeOutcome theFrame frame space = fileWrites (isFrameLength (length frame)) (textOf theFrame frame) (length space)
+writeOutcome (theSectors first sectors) disk space =
     fileWrites (isDiskPart (length disk) first sectors) (textOf (theSectors first sectors) disk) (length space)
 
-abbrev pub readTold : (k : Kind) → List ℕ → Carried k → Told
-readTold theRecord bytes r = loadTold bytes
-readTold theImage text image = fileReads imageDigits isImageLength (length image) text
-readTold theData text memory = fileReads wordDigits isDataLength (length memory) text
-readTold theFrame text frame = fileReads frameDigits isFrameLength (length frame) text
-readTold (theSectors first sectors) text words = fileReads wordDigits isPartLength (length words) text
+abbrev pub readOutcome : (k : Kind) → List ℕ → Carried k → Outcome
+readOutcome theRecord bytes r = loadOutcome bytes
+readOutcome theImage text image = fileReads imageDigits isImageLength (length image) text
+readOutcome theData text memory = fileReads wordDigits isDataLength (length memory) text
+readOutcome theFrame text frame = fileReads frameDigits isFrameLength (length frame) text
+readOutcome (theSectors first sectors) text words = fileReads wordDigits isPartLength (length words) text
+
+-- What stands in the text space after a write, and in the slice after a read; where one is refused, "lent memory keeps its contents".
+abbrev pub wroteFile : Outcome → (text space : List ℕ) → List ℕ
+wroteFile outcome text space = unlessRefused outcome (put space 0 text) space
+
+abbrev pub wroteInto : (k : Kind) → Carried k → List ℕ → List ℕ
+wroteInto theRecord r space = saveBytes r space
+wroteInto theImage image space = wroteFile (writeOutcome theImage image space) (textOf theImage image) space
+wroteInto theData memory space = wroteFile (writeOutcome theData memory space) (textOf theData memory) space
+wroteInto theFrame frame space = wroteFile (writeOutcome theFrame frame space) (textOf theFrame frame) space
+wroteInto (theSectors first sectors) disk space =
+    wroteFile (writeOutcome (theSectors first sectors) disk space) (textOf (theSectors first sectors) disk) space
+
+abbrev pub readFile : Outcome → (text words : List ℕ) → List ℕ
+readFile outcome text words = unlessRefused outcome (fileWords (length words) (lines text)) words
 
 abbrev pub readInto : (k : Kind) → List ℕ → Carried k → Carried k
 readInto theRecord bytes r = loadRecord bytes
-readInto theImage text image = fileWords (length image) (lines text)
-readInto theData text memory = fileWords (length memory) (lines text)
-readInto theFrame text frame = fileWords (length frame) (lines text)
-readInto (theSectors first sectors) text words = fileWords (length words) (lines text)
+readInto theImage text image = readFile (readOutcome theImage text image) text image
+readInto theData text memory = readFile (readOutcome theData text memory) text memory
+readInto theFrame text frame = readFile (readOutcome theFrame text frame) text frame
+readInto (theSectors first sectors) text words = readFile (readOutcome (theSectors first sectors) text words) text words
+
+-- "lent memory keeps its contents; .. a record reader the fresh one"
+abbrev pub refusedInto : (k : Kind) → Carried k → Carried k
+refusedInto theRecord r = freshRecord
+refusedInto theImage image = image
+refusedInto theData memory = memory
+refusedInto theFrame frame = frame
+refusedInto (theSectors first sectors) words = words
 
 -- "reads that text into a slice of the same length"; a record is read into no slice.
 abbrev pub SameLength : (k : Kind) → Carried k → Type 0
@@ -182,10 +206,12 @@ lab =
       Slice = Carried;
       part = part;
       place = place;
-      writeTold = writeTold;
+      writeOutcome = writeOutcome;
       textOf = textOf;
-      readTold = readTold;
+      wroteInto = wroteInto;
+      readOutcome = readOutcome;
       readInto = readInto;
+      refusedInto = refusedInto;
       SameLength = SameLength;
       Room = Room;
       accepts = λ code m. acceptsCommand (code .image) (code .irq2) m;

@@ -2,4 +2,5 @@
 pub mod Lab
 pub mod Irq2Place
 pub mod Answers
+pub mod RealCalls
 pub mod Examples

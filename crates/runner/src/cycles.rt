@@ -14,7 +14,7 @@ ghost use lib.ListN.{length, drop};
 ghost use Rattle.text.specs.Numerals.{HexWords};
 ghost use Rattle.files.specs.Irq2File.{rising};
 ghost use Rattle.machine.specs.Soundness.{Sound};
-ghost use Rattle.executor.specs.Lent.{packed, Kept, Sized};
+ghost use Rattle.executor.specs.Lent.{packed, HaveText, Sized};
 ghost use Rattle.runner.specs.Lab.{codeOf};
 ghost use Rattle.runner.specs.Answers.{EndsRun};
 
@@ -34,14 +34,14 @@ pub fn make_cycles(
     table: &[u64; 1024],
 ) -> Ended
     requires { ⌜ Sound start (drop 3 (now regs)) (now io) × (rising (now irq2) ≡ true) ⌝ }
-    requires { ⌜ (length (now image) ≡ 4096) × (Kept (now regs) (now text) × (HexWords (now table) × Sized (now memory) (now disk) (now frame))) ⌝ }
+    requires { ⌜ (length (now image) ≡ 4096) × (HaveText (now regs) (now text) × (HexWords (now table) × Sized (now memory) (now disk) (now frame))) ⌝ }
     ensures { λ r. ⌜ EndsRun (codeOf (now (image .entry)) (now (irq2 .entry))) budget (now (log .entry)) (packed start (now (regs .entry)) (now (io .entry)) (now (memory .entry)) (now (disk .entry)) (now (frame .entry))) r (packed (r .core) (now (regs .exit)) (now (io .exit)) (now (memory .exit)) (now (disk .exit)) (now (frame .exit))) (now (log .exit)) ⌝ }
 {
     let mut c = start;
     let mut awaited = first_awaited(irq2, start.age);
     let mut at = 0;
-    // A stamp that serves no cycle yet.
-    let mut stamp = [0u64; 7];
+    // A prefix that is valid for no cycle yet.
+    let mut prefix = [0u64; 7];
     let last = last_age(start.age, budget);
     while c.age < last {
         let hit = is_awaited(awaited, c.age);
@@ -61,7 +61,7 @@ pub fn make_cycles(
             log,
             at,
             table,
-            &mut stamp,
+            &mut prefix,
         );
         c = s.core;
         at = s.at;

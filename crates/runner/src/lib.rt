@@ -2,6 +2,7 @@
 use machine::Core;
 use machine::Record;
 
+mod answers;
 mod calls;
 mod cycles;
 mod irq2;

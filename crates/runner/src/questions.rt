@@ -15,7 +15,7 @@ ghost use Rattle.machine.specs.Cycle.{atFetch};
 ghost use Rattle.machine.specs.Log.{linesAtFetch};
 ghost use Rattle.machine.specs.Soundness.{Sound};
 ghost use Rattle.executor.specs.Lent.{packed};
-ghost use Rattle.runner.specs.Answers.{ranTold, ranReason, reasonOf};
+ghost use Rattle.runner.specs.Answers.{ranOutcome, ranReason, reasonOf};
 
 // The age at which no cycle is made.
 const CYCLE_LIMIT: u64 = 0xFF_FFFF_FFFF;
@@ -77,7 +77,7 @@ pub fn may_cycle(
 // The end of a run whose machine makes no further cycle: why, in the order in which a run asks.
 pub fn ended(c: Core, cycles: u64, budget: u64, at: usize) -> Ended
     ensures { λ r. ⌜ (r .core ≡ c) × ((r .cycles ≡ cycles) × (r .at ≡ at)) ⌝ }
-    ensures { λ r. ⌜ (ranTold (r .answer) ≡ accepted 0) × (ranReason (r .answer) ≡ reasonOf c cycles budget) ⌝ }
+    ensures { λ r. ⌜ (ranOutcome (r .answer) ≡ accepted 0) × (ranReason (r .answer) ≡ reasonOf c cycles budget) ⌝ }
 {
     Ended {
         core: c,
@@ -89,7 +89,7 @@ pub fn ended(c: Core, cycles: u64, budget: u64, at: usize) -> Ended
 
 // Why a machine makes no further cycle.
 fn why(c: Core, cycles: u64, budget: u64) -> RunAnswer
-    ensures { λ r. ⌜ (ranTold r ≡ accepted 0) × (ranReason r ≡ reasonOf c cycles budget) ⌝ }
+    ensures { λ r. ⌜ (ranOutcome r ≡ accepted 0) × (ranReason r ≡ reasonOf c cycles budget) ⌝ }
 {
     if c.status != 0 {
         return RunAnswer::Stopped;

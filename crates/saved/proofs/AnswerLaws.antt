@@ -8,8 +8,8 @@ use lib.ListN.{length, getD}
 use Rattle.machine.specs.declared.Record.{Record}
 use Rattle.saved.specs.Layout.{recordOf, savedBytes, savedFields}
 use Rattle.saved.specs.Sound.{isSound}
-use Rattle.saved.specs.Calls.{saveTold, saveBytes, freshRecord, loadTold, loadRecord}
-use Rattle.saved.specs.Answers.{savedTold, loadedTold}
+use Rattle.saved.specs.Calls.{saveOutcome, saveBytes, freshRecord, loadOutcome, loadRecord}
+use Rattle.saved.specs.Answers.{savedOutcome, loadedOutcome}
 use Rattle.saved.specs.declared.Loaded.{Loaded}
 use Rattle.saved.specs.declared.Saved.the-variants as Saved
 use Rattle.saved.specs.declared.LoadAnswer.the-variants as LoadAnswer
@@ -17,14 +17,14 @@ use Rattle.saved.specs.declared.LoadAnswer.the-variants as LoadAnswer
 -- ---- saving
 
 module _ (r : Record) (out : List ℕ) where
-  pub save-wrong-length : eqb (length out) 91 ≡ false → (savedTold Saved.WrongLength ≡ saveTold r out) × (out ≡ saveBytes r out)
+  pub save-wrong-length : eqb (length out) 91 ≡ false → (savedOutcome Saved.WrongLength ≡ saveOutcome r out) × (out ≡ saveBytes r out)
   save-wrong-length e = (rw e, rw e)
 
   module _ (e : eqb (length out) 91 ≡ true) where
-    pub save-unsound : isSound r ≡ false → (savedTold Saved.Unsound ≡ saveTold r out) × (out ≡ saveBytes r out)
+    pub save-unsound : isSound r ≡ false → (savedOutcome Saved.Unsound ≡ saveOutcome r out) × (out ≡ saveBytes r out)
     save-unsound q = (rw (e, q), rw (e, q))
 
-    pub save-done : isSound r ≡ true → (new : List ℕ) → new ≡ savedBytes r → (savedTold Saved.Done ≡ saveTold r out) × (new ≡ saveBytes r out)
+    pub save-done : isSound r ≡ true → (new : List ℕ) → new ≡ savedBytes r → (savedOutcome Saved.Done ≡ saveOutcome r out) × (new ≡ saveBytes r out)
     save-done q new is = (rw (e, q), rw (e, q) is)
 
 -- ---- reading
@@ -32,7 +32,7 @@ module _ (r : Record) (out : List ℕ) where
 module _ (bytes : List ℕ) where
   -- What reading promises.
   abbrev Right : Loaded → Type 0
-  Right l = (loadedTold (l .answer) ≡ loadTold bytes) × (l .state ≡ loadRecord bytes)
+  Right l = (loadedOutcome (l .answer) ≡ loadOutcome bytes) × (l .state ≡ loadRecord bytes)
 
   pub load-wrong-length : eqb (length bytes) 91 ≡ false → (l : Loaded) → (l .state ≡ freshRecord) × (l .answer ≡ LoadAnswer.WrongLength) → Right l
   load-wrong-length e l p = (rw (p .1, e), rw (p .0, e))

@@ -20,7 +20,9 @@ use Rattle.machine.specs.declared.Record.{Record}
 use Rattle.machine.specs.Execution.{isReadOrWrite}
 use Rattle.machine.specs.Soundness.{keptBits, FittingIo, SoundCore, SoundDisk, Sound}
 use Rattle.saved.specs.Layout.{edition, recordBytes, ioNumbers, widths, fieldsOf}
+use Rattle.machine.proofs.SoundLaws.{sound-fresh}
 use Rattle.saved.specs.Sound.{same, isSound}
+use Rattle.saved.specs.Calls.{freshRecord}
 
 -- ---- tests
 
@@ -226,3 +228,7 @@ sound-test r s =
 pub packs : (r : Record) → isSound r ≡ true → (k : ℕ) → k ≡ recordBytes → Packs widths (fieldsOf r) k
 unfolding widths ioBits
 packs r h k e = record { fitting = sound-fits r h; whole = rw e; small = refl }
+
+-- The fresh record is sound.
+pub fresh-sound : (state : Record) → state ≡ freshRecord → Sound (state .core) (state .regs) (state .io)
+fresh-sound state e = rw e sound-fresh

@@ -3,7 +3,8 @@ use Prim.Native.Nat.{ℕ}
 use mathlib.Core.List.{List, [], _∷_}
 use lib.Dec.{eqb}
 use lib.ListN.{length, getD, replicate}
-use Rattle.text.specs.Questions.{Question, Told, accepted, firstNo, unlessRefused}
+use Rattle.text.specs.declared.Outcome.{Outcome}
+use Rattle.text.specs.Questions.{Question, accepted, firstNo, unlessRefused}
 use Rattle.machine.specs.declared.Record.{Record}
 use Rattle.machine.specs.State.{freshCore}
 use Rattle.saved.specs.Layout.{edition, recordBytes, recordOf, savedBytes, savedFields}
@@ -19,12 +20,12 @@ freshRecord = record { core = freshCore; regs = replicate 13 0; io = replicate 2
 abbrev pub saveQuestions : Record → List ℕ → List Question
 saveQuestions r out = (1, eqb (length out) recordBytes) ∷ (13, isSound r) ∷ []
 
-abbrev pub saveTold : Record → List ℕ → Told
-saveTold r out = firstNo (saveQuestions r out) 0 (accepted 0)
+abbrev pub saveOutcome : Record → List ℕ → Outcome
+saveOutcome r out = firstNo (saveQuestions r out) 0 (accepted 0)
 
 -- The lent bytes after saving.
 abbrev pub saveBytes : Record → List ℕ → List ℕ
-saveBytes r out = unlessRefused (saveTold r out) (savedBytes r) out
+saveBytes r out = unlessRefused (saveOutcome r out) (savedBytes r) out
 
 -- ---- reading
 
@@ -36,9 +37,9 @@ loadQuestions bytes =
     ∷ (13, isSound (recordOf (savedFields bytes)))
     ∷ []
 
-abbrev pub loadTold : List ℕ → Told
-loadTold bytes = firstNo (loadQuestions bytes) 0 (accepted 0)
+abbrev pub loadOutcome : List ℕ → Outcome
+loadOutcome bytes = firstNo (loadQuestions bytes) 0 (accepted 0)
 
 -- The record handed back: the one read; where the call is refused, "a record reader the fresh one".
 abbrev pub loadRecord : List ℕ → Record
-loadRecord bytes = unlessRefused (loadTold bytes) (recordOf (savedFields bytes)) freshRecord
+loadRecord bytes = unlessRefused (loadOutcome bytes) (recordOf (savedFields bytes)) freshRecord

@@ -11,7 +11,7 @@ use Rattle.isa.specs.Registers.{ioBits}
 use Rattle.machine.specs.declared.Record.{Record}
 use Rattle.saved.specs.Layout.{widths, fieldsOf, recordOf, savedBytes, savedFields}
 use Rattle.saved.specs.Sound.{isSound}
-use Rattle.saved.specs.Calls.{freshRecord, saveTold, loadTold, loadRecord}
+use Rattle.saved.specs.Calls.{freshRecord, saveOutcome, loadOutcome, loadRecord}
 
 -- "728 bits", 91 bytes.
 all-bits : total widths ≡ 728
@@ -80,7 +80,7 @@ busy-back = refl
 second-edition : List ℕ
 second-edition = 2 ∷ replicate 90 1
 
-other-edition : loadTold second-edition ≡ refused 14 0
+other-edition : loadOutcome second-edition ≡ refused 14 0
 unfolding second-edition savedFields recordOf isSound fieldsOf widths ioBits numberOf bits
 other-edition = refl
 
@@ -92,7 +92,7 @@ hands-back = refl
 status-six : List ℕ
 status-six = 1 ∷ 0xC0 ∷ replicate 89 0
 
-unsound-bytes : loadTold status-six ≡ refused 13 0
+unsound-bytes : loadOutcome status-six ≡ refused 13 0
 unfolding status-six savedFields recordOf isSound fieldsOf widths ioBits numberOf bits
 unsound-bytes = refl
 
@@ -101,11 +101,11 @@ unfolding status-six savedFields recordOf isSound fieldsOf widths ioBits numberO
 hands-back-unsound = refl
 
 -- "lent lengths": 90 bytes, and 92; asked before all else.
-one-short : loadTold (replicate 90 1) ≡ refused 1 0
+one-short : loadOutcome (replicate 90 1) ≡ refused 1 0
 unfolding savedFields recordOf isSound fieldsOf widths ioBits numberOf bits
 one-short = refl
 
-one-more : saveTold halted (replicate 92 0) ≡ refused 1 0
+one-more : saveOutcome halted (replicate 92 0) ≡ refused 1 0
 unfolding halted isSound fieldsOf widths ioBits
 one-more = refl
 
@@ -124,11 +124,11 @@ unfolding withDisk isSound fieldsOf widths ioBits
 disks = refl
 
 -- "Saving: sound? 13", after the length.
-unsound : saveTold (withDisk 0 3 0) (replicate 91 0) ≡ refused 13 0
+unsound : saveOutcome (withDisk 0 3 0) (replicate 91 0) ≡ refused 13 0
 unfolding withDisk isSound fieldsOf widths ioBits
 unsound = refl
 
-length-first : saveTold (withDisk 0 3 0) (replicate 90 0) ≡ refused 1 0
+length-first : saveOutcome (withDisk 0 3 0) (replicate 90 0) ≡ refused 1 0
 unfolding withDisk isSound fieldsOf widths ioBits
 length-first = refl
 

@@ -1,6 +1,7 @@
 // The saved record. What its bytes are stands in specs/.
 use machine::Record;
 
+mod answers;
 mod copies;
 pub mod fields;
 mod fresh;

@@ -8,12 +8,12 @@ use crate::layout::EDITION;
 use crate::layout::WIDTHS;
 use crate::sound::is_possible;
 ghost use mathlib.Core.Path.{_≡_};
-ghost use Rattle.saved.specs.Answers.{loadedTold};
-ghost use Rattle.saved.specs.Calls.{freshRecord, loadTold, loadRecord};
+ghost use Rattle.saved.specs.Answers.{loadedOutcome};
+ghost use Rattle.saved.specs.Calls.{freshRecord, loadOutcome, loadRecord};
 
 // Reads a record of 91 bytes.
 pub fn load(bytes: &[u8]) -> Loaded
-    ensures { λ r. ⌜ (loadedTold (r .answer) ≡ loadTold (now (bytes .entry))) × (r .state ≡ loadRecord (now (bytes .entry))) ⌝ }
+    ensures { λ r. ⌜ (loadedOutcome (r .answer) ≡ loadOutcome (now (bytes .entry))) × (r .state ≡ loadRecord (now (bytes .entry))) ⌝ }
 {
     if bytes.len() != BYTES {
         return refused(LoadAnswer::WrongLength);

@@ -8,12 +8,12 @@ use bitpack::all_fit;
 use bitpack::pack;
 use machine::Record;
 ghost use mathlib.Core.Path.{_≡_};
-ghost use Rattle.saved.specs.Answers.{savedTold};
-ghost use Rattle.saved.specs.Calls.{saveTold, saveBytes};
+ghost use Rattle.saved.specs.Answers.{savedOutcome};
+ghost use Rattle.saved.specs.Calls.{saveOutcome, saveBytes};
 
 // Saves a record in 91 bytes. A refusal changes nothing.
 pub fn save(r: Record, bytes: &mut [u8]) -> Saved
-    ensures { λ answer. ⌜ (savedTold answer ≡ saveTold r (now (bytes .entry))) × (now (bytes .exit) ≡ saveBytes r (now (bytes .entry))) ⌝ }
+    ensures { λ answer. ⌜ (savedOutcome answer ≡ saveOutcome r (now (bytes .entry))) × (now (bytes .exit) ≡ saveBytes r (now (bytes .entry))) ⌝ }
 {
     if bytes.len() != BYTES {
         return Saved::WrongLength;

@@ -14,8 +14,8 @@ pub fn print_help() {
         0,
         b"sim: runs a SIMP program until it halts, on the course paper's fourteen files\n\n  sim imemin.txt dmemin.txt diskin.txt irq2in.txt dmemout.txt regout.txt trace.txt\n      hwregtrace.txt cycles.txt leds.txt display7seg.txt diskout.txt monitor.txt\n      monitor.yuv [CYCLES]\n\n",
     );
-    at = append_read(&mut text, at);
-    at = append_written(&mut text, at);
+    at = put_read_files(&mut text, at);
+    at = put_written_files(&mut text, at);
     at = append(
         &mut text,
         at,
@@ -25,7 +25,7 @@ pub fn print_help() {
 }
 
 // Lays the files that are read at a place of the text and returns the place after it.
-fn append_read(text: &mut [u8], at: usize) -> usize
+fn put_read_files(text: &mut [u8], at: usize) -> usize
     requires { ⌜ at ≤ length (now text) ⌝ }
     ensures { λ r. ⌜ Counts r (now (text .exit)) ⌝ }
 {
@@ -37,7 +37,7 @@ fn append_read(text: &mut [u8], at: usize) -> usize
 }
 
 // Lays the files that are written in the same way.
-fn append_written(text: &mut [u8], at: usize) -> usize
+fn put_written_files(text: &mut [u8], at: usize) -> usize
     requires { ⌜ at ≤ length (now text) ⌝ }
     ensures { λ r. ⌜ Counts r (now (text .exit)) ⌝ }
 {

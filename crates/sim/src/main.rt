@@ -4,16 +4,16 @@ mod help;
 
 use crate::help::print_help;
 use console::are_names;
-use console::hold_standard;
+use console::open_missing_standard_streams;
 use memories::Count;
 use memories::read_budget;
-use simulation::simulate;
+use run_commands::simulate;
 
 // The age at which a machine makes no cycle any more: as good as no budget.
 const MOST_CYCLES: u64 = 1_099_511_627_775;
 
 fn main() {
-    hold_standard();
+    open_missing_standard_streams();
     match os::arg_count() {
         15 => simulate_names(MOST_CYCLES),
         16 => simulate_budget(),

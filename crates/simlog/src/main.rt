@@ -2,32 +2,49 @@
 // the line E; of a file that is refused the line N alone.
 use files::read_image;
 use libc::STDIN_FILENO;
-use pieces::file_told;
-use pieces::print_line_e;
-use pieces::print_line_n;
-use pieces::run_budget;
+use long_run::RunEnd;
+use long_run::print_line_e;
+use long_run::print_line_n;
+use long_run::run_budget;
+use text::Outcome;
+ghost use mathlib.Core.List.{List};
+ghost use Prim.Native.Nat.{ℕ, _≤_, _<_};
+ghost use lib.ListN.{length};
+ghost use Rattle.simlog.specs.Simlog.{ImageOf, IsFront, Ran};
 
-// The bytes that decide how a file of any length is read: those of 4,096 lines, and one more (`image-cut` of `files`).
+// The bytes that decide how a file of any length is read: those of 4,096 lines, and one more.
 const FRONT: usize = 53_249;
 
 fn main() {
     let mut text = [0u8; FRONT];
     let n = io::read_full(STDIN_FILENO, &mut text);
     let mut image = [0u64; 4096];
-    let told = file_told(read_image(&text[..n], &mut image));
-    if told.number != 0 {
-        print_line_n(told.number, told.place);
+    let outcome = read_front(&text, n, &mut image);
+    if outcome.number != 0 {
+        print_line_n(outcome.number, outcome.place);
         return;
     }
-    run_image(&image);
+    let end = run_image(&image);
+    if end.written {
+        print_line_e(end.state.core.status, end.state.core.age);
+    }
 }
 
-// Runs an image and prints the log and the line E.
-fn run_image(image: &[u64; 4096]) {
+// Reads the image of a text of any length, of which the buffer holds the front in its first n bytes.
+fn read_front(buffer: &[u8], n: usize, image: &mut [u64; 4096]) -> Outcome
+    requires { ⌜ (53248 < length (now buffer)) × (n ≤ length (now buffer)) ⌝ }
+    ensures { λ r. ⌜ ((whole : List ℕ) → IsFront (now (buffer .entry)) n whole → ImageOf whole r (now (image .entry)) (now (image .exit))) ⌝ }
+{
+    read_image(&buffer[..n], image).outcome()
+}
+
+// Runs an image and prints the log.
+fn run_image(image: &[u64; 4096]) -> RunEnd
+    ensures { λ r. ⌜ Ran (now (image .entry)) r ⌝ }
+{
     let mut memory = [0u32; 4096];
     let mut disk = [0u32; 16384];
     let mut frame = [0u8; 65536];
     let irq2 = [0u64; 0];
-    let end = run_budget(image, &mut memory, &mut disk, &mut frame, &irq2);
-    print_line_e(end.state.core.status, end.state.core.age);
+    run_budget(image, &mut memory, &mut disk, &mut frame, &irq2)
 }

@@ -14,7 +14,7 @@ use Rattle.trace.proofs.LengthLaws.{length-T}
 use Rattle.machine.specs.declared.Core.{Core}
 use Rattle.machine.specs.declared.Operands.{Operands}
 use Rattle.machine.specs.State.{Machine}
-use Rattle.executor.specs.Lent.{packed, Kept}
+use Rattle.executor.specs.Lent.{packed, HaveText}
 use Rattle.machine.specs.Execution.{fetched, registersOf, operandsOf, executed, fetchedAndExecuted}
 use Rattle.machine.specs.Cycle.{timerStepped, diskStepped, counted, atFetch, stepped}
 use Rattle.machine.specs.Log.{ioLines, linesAtFetch, traced, tracedOn}
@@ -22,9 +22,9 @@ use Rattle.machine.specs.Log.{ioLines, linesAtFetch, traced, tracedOn}
 -- ---- steps 3 and 4
 
 -- The text stays right when R1 and R2 are set.
-pub kept-immediates : (f : Fields) (c : Core) (registers after text io memory disk frame : List ℕ) → Kept registers text
-    → after ≡ registersOf f (packed c registers io memory disk frame) → Kept after text
-kept-immediates f c registers after text io memory disk frame k e =
+pub text-with-immediates : (f : Fields) (c : Core) (registers after text io memory disk frame : List ℕ) → HaveText registers text
+    → after ≡ registersOf f (packed c registers io memory disk frame) → HaveText after text
+text-with-immediates f c registers after text io memory disk frame k e =
     let sixteen = k .sixteen in
     let rest = length-drop 3 registers in
     rw e (record { sixteen = omega arith; zero = refl; is = k .is })

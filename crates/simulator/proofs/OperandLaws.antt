@@ -9,7 +9,7 @@ use Rattle.isa.specs.Word.{signExtended}
 use Rattle.trace.specs.LogLines.{frontT, lineT}
 use Rattle.trace.proofs.LineLaws.{line-t-is}
 use Rattle.machine.specs.declared.Core.{Core}
-use Rattle.executor.specs.Lent.{Kept, packed}
+use Rattle.executor.specs.Lent.{HaveText, packed}
 use Rattle.machine.specs.Execution.{operandsFrom, registersOf, operandsOf}
 
 -- R0 to R15 by R1 and R2.
@@ -19,8 +19,8 @@ by-immediates (x ∷ []) h e = absurd (omega arith)
 by-immediates (x ∷ y ∷ []) h e = absurd (omega arith)
 by-immediates (x ∷ y ∷ z ∷ r) h e = ap (λ (n : ℕ). n ∷ y ∷ z ∷ r) e
 
--- The T line from its front, in which R1 and R2 stand, and the text that is kept.
-pub line-of : (pc word a b : ℕ) (registers text : List ℕ) → Kept registers text → getD registers 1 0 ≡ a → getD registers 2 0 ≡ b
+-- The T line from its front, in which R1 and R2 stand, and the text of the others.
+pub line-of : (pc word a b : ℕ) (registers text : List ℕ) → HaveText registers text → getD registers 1 0 ≡ a → getD registers 2 0 ≡ b
     → frontT pc word a b ++ text ≡ lineT pc word registers
 line-of pc word a b registers text k p q =
     ap (λ (t : List ℕ). frontT pc word a b ++ t) (k .is)

@@ -12,7 +12,7 @@ use isa::word::sign_extend;
 use machine::Core;
 use machine::Operands;
 use trace::log_lines::put_line_t;
-use trace::stamps::keep_stamp;
+use trace::prefixes::update_prefix;
 use words::arithmetic::plus;
 ghost use mathlib.Core.Path.{_≡_};
 ghost use mathlib.Core.List.{List, _++_};
@@ -23,15 +23,15 @@ ghost use Rattle.text.specs.Place.{put};
 ghost use Rattle.isa.specs.Word.{Fitting as FieldsFit, signExtended};
 ghost use Rattle.isa.specs.Operations.{operationOf};
 ghost use Rattle.trace.specs.LogLines.{lineT};
-ghost use Rattle.trace.specs.Stamps.{Serves, IsStamp};
+ghost use Rattle.trace.specs.Prefixes.{ValidFor, IsPrefix};
 ghost use Rattle.machine.specs.declared.Core.{Core as CoreOf};
 ghost use Rattle.machine.specs.Execution.{registersOf, operandsOf, fetchedAndExecuted};
 ghost use Rattle.machine.specs.Cycle.{timerStepped, diskStepped, counted, atFetch};
 ghost use Rattle.machine.specs.Log.{ioLines, linesAtFetch, traced, tracedOn};
 ghost use Rattle.machine.specs.Soundness.{Sound};
-ghost use Rattle.executor.specs.Lent.{packed, Kept, Sized, Ready};
+ghost use Rattle.executor.specs.Lent.{packed, HaveText, Sized, Ready};
 
-// Makes one cycle and lays its lines into the log at a place. `hit`: the age is in the irq2 list. The stamp is kept for the next. Whether the machine may make a cycle, and
+// Makes one cycle and lays its lines into the log at a place. `hit`: the age is in the irq2 list. The prefix is made valid for the cycle. Whether the machine may make a cycle, and
 // whether its lines fit, a run asks first.
 pub fn cycle(
     c: Core,
@@ -46,15 +46,15 @@ pub fn cycle(
     log: &mut [u8],
     at: usize,
     table: &[u64; 1024],
-    stamp: &mut [u64; 7],
+    prefix: &mut [u64; 7],
 ) -> Step
     requires { ⌜ Sound c (drop 3 (now regs)) (now io) ⌝ }
-    requires { ⌜ (length (now image) ≡ 4096) × (Kept (now regs) (now text) × (HexWords (now table) × (Sized (now memory) (now disk) (now frame) × IsStamp (now stamp)))) ⌝ }
+    requires { ⌜ (length (now image) ≡ 4096) × (HaveText (now regs) (now text) × (HexWords (now table) × (Sized (now memory) (now disk) (now frame) × IsPrefix (now prefix)))) ⌝ }
     requires { ⌜ at + length (linesAtFetch (now image) (atFetch hit (packed c (now regs) (now io) (now memory) (now disk) (now frame)))) ≤ length (now log) ⌝ }
     ensures { λ r. ⌜ traced (packed (r .core) (now (regs .exit)) (now (io .exit)) (now (memory .exit)) (now (disk .exit)) (now (frame .exit))) (now (log .exit)) (r .at) ≡ tracedOn (now (image .entry)) hit (traced (packed c (now (regs .entry)) (now (io .entry)) (now (memory .entry)) (now (disk .entry)) (now (frame .entry))) (now (log .entry)) at) ⌝ }
-    ensures { λ r. ⌜ Kept (now (regs .exit)) (now (text .exit)) × IsStamp (now (stamp .exit)) ⌝ }
+    ensures { λ r. ⌜ HaveText (now (regs .exit)) (now (text .exit)) × IsPrefix (now (prefix .exit)) ⌝ }
 {
-    keep_stamp(stamp, c.age);
+    update_prefix(prefix, c.age);
     let began = c.left;
     let s = begin_cycle(c, hit, io);
     let d = fetch_and_execute(
@@ -69,7 +69,7 @@ pub fn cycle(
         log,
         at,
         table,
-        stamp,
+        prefix,
     );
     let e = d.core;
     Step {
@@ -91,19 +91,19 @@ fn fetch_and_execute(
     log: &mut [u8],
     at: usize,
     table: &[u64; 1024],
-    stamp: &[u64; 7],
+    prefix: &[u64; 7],
 ) -> Step
-    requires { ⌜ (c .pc < 4096) × ((length (now image) ≡ 4096) × Serves (c .age) (now stamp)) ⌝ }
-    requires { ⌜ Kept (now regs) (now text) × (HexWords (now table) × Ready (now io) (now memory) (now disk) (now frame)) ⌝ }
+    requires { ⌜ (c .pc < 4096) × ((length (now image) ≡ 4096) × ValidFor (c .age) (now prefix)) ⌝ }
+    requires { ⌜ HaveText (now regs) (now text) × (HexWords (now table) × Ready (now io) (now memory) (now disk) (now frame)) ⌝ }
     requires { ⌜ at + length (linesAtFetch (now image) (packed c (now regs) (now io) (now memory) (now disk) (now frame))) ≤ length (now log) ⌝ }
     ensures { λ r. ⌜ packed (r .core) (now (regs .exit)) (now (io .exit)) (now (memory .exit)) (now (disk .exit)) (now (frame .exit)) ≡ fetchedAndExecuted (now (image .entry)) (packed c (now (regs .entry)) (now (io .entry)) (now (memory .entry)) (now (disk .entry)) (now (frame .entry))) ⌝ }
     ensures { λ r. ⌜ (now (log .exit) ≡ put (now (log .entry)) at (linesAtFetch (now (image .entry)) (packed c (now (regs .entry)) (now (io .entry)) (now (memory .entry)) (now (disk .entry)) (now (frame .entry))))) × (r .at ≡ at + length (linesAtFetch (now (image .entry)) (packed c (now (regs .entry)) (now (io .entry)) (now (memory .entry)) (now (disk .entry)) (now (frame .entry))))) ⌝ }
-    ensures { λ r. ⌜ Kept (now (regs .exit)) (now (text .exit)) ⌝ }
+    ensures { λ r. ⌜ HaveText (now (regs .exit)) (now (text .exit)) ⌝ }
 {
     let word = image[c.pc as usize];
     let f = decode(word);
     let o = read_operands(f, regs);
-    let end = put_lines(log, at, c, word, f.op, o, regs, text, io, table, stamp);
+    let end = put_lines(log, at, c, word, f.op, o, regs, text, io, table, prefix);
     Step {
         core: execute(f.op, c, o, regs, text, io, memory, disk, frame, table),
         at: end,
@@ -142,14 +142,14 @@ fn put_lines(
     text: &[u8; 118],
     io: &[u32; 23],
     table: &[u64; 1024],
-    stamp: &[u64; 7],
+    prefix: &[u64; 7],
 ) -> usize
-    requires { ⌜ (at + length (lineT (c .pc) word (now regs) ++ ioLines (c .age) (operationOf op) o (now io)) ≤ length (now log)) × (Kept (now regs) (now text) × (HexWords (now table) × Serves (c .age) (now stamp))) ⌝ }
+    requires { ⌜ (at + length (lineT (c .pc) word (now regs) ++ ioLines (c .age) (operationOf op) o (now io)) ≤ length (now log)) × (HaveText (now regs) (now text) × (HexWords (now table) × ValidFor (c .age) (now prefix))) ⌝ }
     requires { ⌜ (getD (now regs) 1 0 ≡ signExtended (word / 2 ^ 12 % 2 ^ 12)) × (getD (now regs) 2 0 ≡ signExtended (word % 2 ^ 12)) ⌝ }
     ensures { λ r. ⌜ (now (log .exit) ≡ put (now (log .entry)) at (lineT (c .pc) word (now (regs .entry)) ++ ioLines (c .age) (operationOf op) o (now (io .entry)))) × (r ≡ at + length (lineT (c .pc) word (now (regs .entry)) ++ ioLines (c .age) (operationOf op) o (now (io .entry)))) ⌝ }
 {
     let line = put_line_t(log, at, c.pc, word, text, table);
-    put_io_lines(log, line, c.age, op, o, io, table, stamp)
+    put_io_lines(log, line, c.age, op, o, io, table, prefix)
 }
 
 // Steps 5 to 7; `began` are the disk cycles to go when the cycle began.

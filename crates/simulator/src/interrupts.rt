@@ -15,7 +15,7 @@ ghost use Prim.Native.Nat.{ℕ};
 ghost use lib.Dec.{eqb};
 ghost use lib.ListN.{set};
 ghost use Rattle.isa.specs.Registers.{irq2status};
-ghost use Rattle.machine.specs.Interrupts.{isAsked, interrupted};
+ghost use Rattle.machine.specs.Interrupts.{isRequested, interrupted};
 ghost use Rattle.machine.specs.Cycle.{atFetch};
 ghost use Rattle.executor.specs.Lent.{packed};
 
@@ -36,7 +36,7 @@ fn raise_irq2(hit: bool, io: &mut [u32; 23])
     }
 }
 
-// Step 2: an interrupt that is asked for is entered while the handler flag is down.
+// Step 2: an interrupt that is requested is entered while the handler flag is down.
 fn enter_handler(c: Core, io: &mut [u32; 23]) -> Core
     ensures { λ r. ⌜ ((regs memory disk frame : List ℕ) → packed r regs (now (io .exit)) memory disk frame ≡ interrupted (packed c regs (now (io .entry)) memory disk frame)) ⌝ }
 {
@@ -49,7 +49,7 @@ fn enter_handler(c: Core, io: &mut [u32; 23]) -> Core
             left: c.left,
         };
     }
-    if is_asked(io) {
+    if is_requested(io) {
         let to = io[IRQHANDLER];
         io[IRQRETURN] = c.pc;
         return Core {
@@ -69,9 +69,9 @@ fn enter_handler(c: Core, io: &mut [u32; 23]) -> Core
     }
 }
 
-// Whether some enable and its status are both 1.
-fn is_asked(io: &[u32; 23]) -> bool
-    ensures { λ r. ⌜ r ≡ isAsked (now (io .entry)) ⌝ }
+// Whether an interrupt is requested: some enable and its status are both 1.
+fn is_requested(io: &[u32; 23]) -> bool
+    ensures { λ r. ⌜ r ≡ isRequested (now (io .entry)) ⌝ }
 {
     if are_both(io[IRQ0ENABLE], io[IRQ0STATUS]) {
         return true;

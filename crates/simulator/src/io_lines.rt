@@ -2,6 +2,8 @@
 use isa::io::DISPLAY7SEG;
 use isa::io::LEDS;
 use isa::io::is_listed;
+use isa::opcodes::IN;
+use isa::opcodes::OUT;
 use machine::Operands;
 use trace::log_lines::put_line_h;
 use trace::log_lines::put_line_ld;
@@ -16,10 +18,10 @@ ghost use Rattle.text.specs.Numerals.{HexWords};
 ghost use Rattle.text.specs.Place.{put};
 ghost use Rattle.isa.specs.Operations.{operationOf, input, output};
 ghost use Rattle.trace.specs.LogLines.{lineLD};
-ghost use Rattle.trace.specs.Stamps.{Serves};
+ghost use Rattle.trace.specs.Prefixes.{ValidFor};
 ghost use Rattle.machine.specs.Log.{changeLines, ioLines};
 
-// Lays the lines of an instruction at a place and returns the place after them; `c` is the cycle, which the stamp serves.
+// Lays the lines of an instruction at a place and returns the place after them; `c` is the cycle, which the prefix is valid for.
 pub fn put_io_lines(
     log: &mut [u8],
     at: usize,
@@ -28,14 +30,14 @@ pub fn put_io_lines(
     o: Operands,
     io: &[u32; 23],
     table: &[u64; 1024],
-    stamp: &[u64; 7],
+    prefix: &[u64; 7],
 ) -> usize
-    requires { ⌜ (at + length (ioLines c (operationOf op) o (now io)) ≤ length (now log)) × (HexWords (now table) × Serves c (now stamp)) ⌝ }
+    requires { ⌜ (at + length (ioLines c (operationOf op) o (now io)) ≤ length (now log)) × (HexWords (now table) × ValidFor c (now prefix)) ⌝ }
     ensures { λ r. ⌜ (now (log .exit) ≡ put (now (log .entry)) at (ioLines c (operationOf op) o (now (io .entry)))) × (r ≡ at + length (ioLines c (operationOf op) o (now (io .entry)))) ⌝ }
 {
     match op {
-        19 => put_read_line(log, at, c, o, io, table, stamp),
-        20 => put_write_lines(log, at, c, o, io, table, stamp),
+        IN => put_read_line(log, at, c, o, io, table, prefix),
+        OUT => put_write_lines(log, at, c, o, io, table, prefix),
         _ => at,
     }
 }
@@ -48,14 +50,14 @@ fn put_read_line(
     o: Operands,
     io: &[u32; 23],
     table: &[u64; 1024],
-    stamp: &[u64; 7],
+    prefix: &[u64; 7],
 ) -> usize
-    requires { ⌜ (at + length (ioLines c input o (now io)) ≤ length (now log)) × (HexWords (now table) × Serves c (now stamp)) ⌝ }
+    requires { ⌜ (at + length (ioLines c input o (now io)) ≤ length (now log)) × (HexWords (now table) × ValidFor c (now prefix)) ⌝ }
     ensures { λ r. ⌜ (now (log .exit) ≡ put (now (log .entry)) at (ioLines c input o (now (io .entry)))) × (r ≡ at + length (ioLines c input o (now (io .entry)))) ⌝ }
 {
     let a = plus(o.rs, o.rt);
     if is_listed(a) {
-        return put_line_h(log, at, c, false, a, io[a as usize], table, stamp);
+        return put_line_h(log, at, c, false, a, io[a as usize], table, prefix);
     }
     at
 }
@@ -68,15 +70,15 @@ fn put_write_lines(
     o: Operands,
     io: &[u32; 23],
     table: &[u64; 1024],
-    stamp: &[u64; 7],
+    prefix: &[u64; 7],
 ) -> usize
-    requires { ⌜ (at + length (ioLines c output o (now io)) ≤ length (now log)) × (HexWords (now table) × Serves c (now stamp)) ⌝ }
+    requires { ⌜ (at + length (ioLines c output o (now io)) ≤ length (now log)) × (HexWords (now table) × ValidFor c (now prefix)) ⌝ }
     ensures { λ r. ⌜ (now (log .exit) ≡ put (now (log .entry)) at (ioLines c output o (now (io .entry)))) × (r ≡ at + length (ioLines c output o (now (io .entry)))) ⌝ }
 {
     let a = plus(o.rs, o.rt);
     if is_listed(a) {
-        let change_at = put_line_h(log, at, c, true, a, o.rm, table, stamp);
-        return put_change_line(log, change_at, c, a, o.rm, io, table, stamp);
+        let change_at = put_line_h(log, at, c, true, a, o.rm, table, prefix);
+        return put_change_line(log, change_at, c, a, o.rm, io, table, prefix);
     }
     at
 }
@@ -90,14 +92,14 @@ fn put_change_line(
     x: u32,
     io: &[u32; 23],
     table: &[u64; 1024],
-    stamp: &[u64; 7],
+    prefix: &[u64; 7],
 ) -> usize
-    requires { ⌜ (at + length (changeLines c n x (now io)) ≤ length (now log)) × (HexWords (now table) × Serves c (now stamp)) ⌝ }
+    requires { ⌜ (at + length (changeLines c n x (now io)) ≤ length (now log)) × (HexWords (now table) × ValidFor c (now prefix)) ⌝ }
     ensures { λ r. ⌜ (now (log .exit) ≡ put (now (log .entry)) at (changeLines c n x (now (io .entry)))) × (r ≡ at + length (changeLines c n x (now (io .entry)))) ⌝ }
 {
     match n {
-        9 => put_if_new(log, at, b'L', c, x, io[LEDS], table, stamp),
-        10 => put_if_new(log, at, b'D', c, x, io[DISPLAY7SEG], table, stamp),
+        9 => put_if_new(log, at, b'L', c, x, io[LEDS], table, prefix),
+        10 => put_if_new(log, at, b'D', c, x, io[DISPLAY7SEG], table, prefix),
         _ => at,
     }
 }
@@ -111,13 +113,13 @@ fn put_if_new(
     x: u32,
     before: u32,
     table: &[u64; 1024],
-    stamp: &[u64; 7],
+    prefix: &[u64; 7],
 ) -> usize
-    requires { ⌜ (at + length (cond (not (eqb x before)) (lineLD (letter ∷ []) c x) []) ≤ length (now log)) × (HexWords (now table) × Serves c (now stamp)) ⌝ }
+    requires { ⌜ (at + length (cond (not (eqb x before)) (lineLD (letter ∷ []) c x) []) ≤ length (now log)) × (HexWords (now table) × ValidFor c (now prefix)) ⌝ }
     ensures { λ r. ⌜ (now (log .exit) ≡ put (now (log .entry)) at (cond (not (eqb x before)) (lineLD (letter ∷ []) c x) [])) × (r ≡ at + length (cond (not (eqb x before)) (lineLD (letter ∷ []) c x) [])) ⌝ }
 {
     if x == before {
         return at;
     }
-    put_line_ld(log, at, letter, c, x, table, stamp)
+    put_line_ld(log, at, letter, c, x, table, prefix)
 }

@@ -1,9 +1,11 @@
 // How many bytes the lines of the next cycle have, known before anything is changed.
 use crate::cycle::read_operands;
 use crate::interrupts::begin_cycle;
+use isa::Access;
 use isa::io::DISPLAY7SEG;
 use isa::io::LEDS;
 use isa::io::is_listed;
+use isa::opcodes::decode_opcode;
 use isa::word::decode;
 use machine::Core;
 use machine::Operands;
@@ -45,10 +47,11 @@ fn io_lines_length(c: u64, op: u32, o: Operands, io: &[u32; 23]) -> usize
     requires { ⌜ c < 2 ^ 40 ⌝ }
     ensures { λ r. ⌜ r ≡ length (ioLines c (operationOf op) o (now (io .entry))) ⌝ }
 {
-    match op {
-        19 => read_length(c, o),
-        20 => write_length(c, o, io),
-        _ => 0,
+    let access = decode_opcode(op);
+    match access {
+        Access::Read => read_length(c, o),
+        Access::Write => write_length(c, o, io),
+        Access::Nothing => 0,
     }
 }
 

@@ -1,6 +1,5 @@
 -- Laws of assembly text.
 pub mod AllLaws
-pub mod LetterLaws
 pub mod NameLaws
 pub mod NumberLaws
 pub mod TokenLaws

@@ -7,7 +7,7 @@ use native.Mathlib.Omega.{arith}
 use lib.ListN.{length, getD, take, drop, length-drop}
 use lib.Seq.{take-all}
 use borrow.Author.Tests.{le-leb, lt-leb, eq-eqb, ne-eqb}
-use Rattle.source.specs.Bytes.{isLetter, isLetterOrDigit, all}
+use Rattle.source.specs.Bytes.{isLetter, isLetterOrDigit, areAll}
 use Rattle.source.specs.Names.{isName, isRegister, defined, isDefinition}
 
 -- ---- a name
@@ -26,7 +26,7 @@ module _ (t : List ℕ) (r : Bool) (is : r ≡ isLetter (getD t 0 0)) where
   unfolding isName
   name-long e h = rw (← is, e, lt-leb (length t) 50 h)
 
-  pub name-rest : r ≡ true → length t ≤ 50 → (u : Bool) → u ≡ all isLetterOrDigit t → u ≡ isName t
+  pub name-rest : r ≡ true → length t ≤ 50 → (u : Bool) → u ≡ areAll isLetterOrDigit t → u ≡ isName t
   unfolding isName
   name-rest e h u q = rw (← is, e, le-leb (length t) 50 h) q
 
@@ -41,11 +41,11 @@ module _ (t : List ℕ) where
   unfolding isRegister
   register-first h n = rw (le-leb 2 (length t) h, ne-eqb (getD t 0 0) 36 n)
 
-  pub register-rest : 2 ≤ length t → getD t 0 0 ≡ 36 → (u : Bool) → u ≡ all isLetterOrDigit (take (length t - 1) (drop 1 t)) → u ≡ isRegister t
+  pub register-rest : 2 ≤ length t → getD t 0 0 ≡ 36 → (u : Bool) → u ≡ areAll isLetterOrDigit (take (length t - 1) (drop 1 t)) → u ≡ isRegister t
   unfolding isRegister
   register-rest h e u q =
       let whole = take-all (length t - 1) (drop 1 t) (rw length-drop (omega arith)) in
-      rw (le-leb 2 (length t) h, eq-eqb (getD t 0 0) 36 e) (q ∙ ap (all isLetterOrDigit) whole)
+      rw (le-leb 2 (length t) h, eq-eqb (getD t 0 0) 36 e) (q ∙ ap (areAll isLetterOrDigit) whole)
 
 -- ---- a definition
 

@@ -1,10 +1,9 @@
 -- A line split into its tokens, one after the other. Assumes nothing.
-use Prim.Native.Nat.{ℕ, suc, _+_, _-_, _*_, _≤_, _<_}
+use Prim.Native.Nat.{ℕ, _+_, _-_, _*_, _≤_, _<_}
 use mathlib.Core.Path.{_≡_, refl, sym, _∙_, ap}
 use mathlib.Core.List.{List, [], _∷_}
-use native.Mathlib.Numerals.{add-one}
 use native.Mathlib.Omega.{arith}
-use lib.ListN.{length, getD, set, take, drop, length-set, length-drop, drop-of-length-le}
+use lib.ListN.{length, getD, set, take, drop, length-set, length-drop}
 use lib.Seq.{drop-drop, getD-drop, getD-set-same, getD-set-other}
 use borrow.Author.Count.{below-more}
 use Rattle.source.specs.declared.Span.{Span}

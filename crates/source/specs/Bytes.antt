@@ -18,9 +18,9 @@ abbrev pub isLetterOrDigit : ℕ → Bool
 isLetterOrDigit b = isLetter b || isBetween "0" "9" b
 
 -- Each byte passes a test.
-unfoldable pub all : (ℕ → Bool) → List ℕ → Bool
-all test [] = true
-all test (b ∷ s) = test b && all test s
+unfoldable pub areAll : (ℕ → Bool) → List ℕ → Bool
+areAll test [] = true
+areAll test (b ∷ s) = test b && areAll test s
 
 -- "at most 500 bytes before the LF or the end, all blanks or 33 to 126? 2"
 abbrev pub isAllowed : ℕ → Bool
@@ -30,4 +30,4 @@ abbrev pub mostBytes : ℕ
 mostBytes = 500
 
 unfoldable pub areRightBytes : List ℕ → Bool
-areRightBytes line = leb (length line) mostBytes && all isAllowed line
+areRightBytes line = leb (length line) mostBytes && areAll isAllowed line

@@ -8,7 +8,7 @@ use lib.ListN.{replicate}
 use Rattle.text.specs.Bytes.{bytes}
 use Rattle.text.specs.Numerals.{allDigits, value}
 use Rattle.source.specs.declared.Number.the-variants.{Decimal, Minus, Hexadecimal, NoNumber}
-use Rattle.source.specs.Bytes.{isAllowed, all, areRightBytes}
+use Rattle.source.specs.Bytes.{isAllowed, areAll, areRightBytes}
 use Rattle.source.specs.Tokens.{token, tokensFrom, tokens, texts}
 use Rattle.source.specs.Numbers.{number}
 use Rattle.text.specs.Same.{same}
@@ -27,7 +27,7 @@ right-bytes : map areRightBytes
     (bytes "add # ~" ∷ replicate 500 35 ∷ replicate 501 35 ∷ (replicate 499 35 ++ bytes "\r") ∷ (replicate 500 35 ++ bytes "\r") ∷ (35 ∷ 11 ∷ [])
     ∷ (0xEF ∷ 0xBB ∷ 0xBF ∷ []) ∷ [])
     ≡ true ∷ true ∷ false ∷ true ∷ false ∷ false ∷ false ∷ []
-unfolding areRightBytes all
+unfolding areRightBytes areAll
 right-bytes = refl
 
 -- ---- tokens
@@ -73,26 +73,26 @@ no-numbers = refl
 -- A10, A13: a letter, then letters or digits; the names of ops, and what looks like a hexadecimal number.
 names : map (λ (s : String). isName (bytes s)) ("L" ∷ "add" ∷ "A0" ∷ "x10" ∷ "9add" ∷ "a_b" ∷ "$t0" ∷ "L:" ∷ "" ∷ [])
     ≡ replicate 4 true ++ replicate 5 false
-unfolding isName all
+unfolding isName areAll
 names = refl
 
 -- A9, A10: "50 at most", of a label that is used, of an op, and of a label that is defined.
 letters : map isName (replicate 50 65 ∷ replicate 51 65 ∷ []) ++ map isDefinition
     ((replicate 50 65 ++ bytes ":") ∷ (replicate 51 65 ++ bytes ":") ∷ [])
     ≡ true ∷ false ∷ true ∷ false ∷ []
-unfolding isDefinition isName all
+unfolding isDefinition isName areAll
 letters = refl
 
 -- A definition is a name and its colon.
 definitions : map (λ (s : String). isDefinition (bytes s)) ("L:" ∷ "add:" ∷ "L" ∷ ":" ∷ "9:" ∷ "$t0:" ∷ []) ≡ true ∷ true ∷ replicate 4 false
-unfolding isDefinition isName all
+unfolding isDefinition isName areAll
 definitions = refl
 
 -- A11: `$` and one or more letters or digits, with no upper length.
 registers : map isRegister
     (bytes "$t0" ∷ bytes "$0" ∷ bytes "$15" ∷ bytes "$T0" ∷ (bytes "$" ++ replicate 60 97) ∷ bytes "$" ∷ bytes "t0" ∷ bytes "$$" ∷ bytes "$t_0" ∷ [])
     ≡ replicate 5 true ++ replicate 4 false
-unfolding isRegister all
+unfolding isRegister areAll
 registers = refl
 
 -- A15: "Names are case-sensitive". Of a name that stands twice the first place counts; one that isn't there has the place after the last.
@@ -114,5 +114,5 @@ shapes = bytes "" ∷ bytes ":" ∷ bytes "o$,i" ∷ bytes ".0" ∷ []
 dialect : map (λ (line : String). firstShape (bytes ".at") shapes (texts (tokens (bytes line))))
     ("" ∷ "# c" ∷ "L:" ∷ "set $a, 0x10" ∷ "set $a, L" ∷ ".at 16" ∷ "set $a" ∷ "set $a, $b" ∷ "set a, 1" ∷ ".at L" ∷ ".to 16" ∷ "L: .at 16" ∷ [])
     ≡ 0 ∷ 0 ∷ 1 ∷ 2 ∷ 2 ∷ 3 ∷ replicate 6 4
-unfolding shapes tokensFrom same number isName isRegister isDefinition fits matches firstShape all allDigits value
+unfolding shapes tokensFrom same number isName isRegister isDefinition fits matches firstShape areAll allDigits value
 dialect = refl

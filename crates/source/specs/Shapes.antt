@@ -35,10 +35,10 @@ unfoldable pub firstShape : (directive : List ℕ) (shapes ts : List (List ℕ))
 firstShape directive [] ts = 0
 firstShape directive (shape ∷ shapes) ts = let more = 1 + firstShape directive shapes ts in cond (matches directive shape ts) 0 more
 
--- The form of a line: which shape its tokens have, and the tokens, with their places.
-pub record Form : Type 0 where
+-- A line parsed: which shape its tokens have, and the tokens, with their places.
+pub record Parsed : Type 0 where
   pub shape : ℕ
   pub parts : List Token
 
-abbrev pub formOf : (directive : List ℕ) (shapes : List (List ℕ)) → List ℕ → Form
-formOf directive shapes line = record { shape = firstShape directive shapes (texts (tokens line)); parts = tokens line }
+abbrev pub parsed : (directive : List ℕ) (shapes : List (List ℕ)) → List ℕ → Parsed
+parsed directive shapes line = record { shape = firstShape directive shapes (texts (tokens line)); parts = tokens line }

@@ -5,6 +5,7 @@ pub mod names;
 pub mod numbers;
 pub mod shapes;
 pub mod tokens;
+pub mod truth;
 
 // What a token is as a number: how it is written, and its digits' value.
 pub enum Number {

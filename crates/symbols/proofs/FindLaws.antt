@@ -15,7 +15,8 @@ use Rattle.symbols.specs.Keys.{keyOf, buckets, bucketOf}
 use Rattle.symbols.specs.Table.{headOf, nextOf, keyAt, part, startOf, endOf, nameAt, namesOf, OnChain}
 use Rattle.symbols.specs.Table.OnChain.{here, there}
 use Rattle.symbols.specs.Sound.{Entry, Reached, Sound, Found}
-use Rattle.symbols.proofs.LookupLaws.{same-self, same-equal, other-same, is-among, none-among}
+use Rattle.text.proofs.SameLaws.{same-equal}
+use Rattle.symbols.proofs.LookupLaws.{same-self, other-same, is-among, none-among}
 use Rattle.symbols.proofs.NameLaws.{length-names, names-at}
 
 -- ---- chains

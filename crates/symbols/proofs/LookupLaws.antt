@@ -1,15 +1,15 @@
 -- Names that are the same, and their places among others. Assumes nothing.
 use Prim.Native.Nat.{ℕ, zero, suc, _+_, _≤_, _<_}
 use mathlib.Core.Path.{_≡_, refl, sym, _∙_, ap}
-use mathlib.Core.Bool.{Bool, true, false, cond, _||_, false≢true}
+use mathlib.Core.Bool.{Bool, true, false, cond, _||_}
 use mathlib.Core.List.{List, [], _∷_, _++_}
 use native.Mathlib.Omega.{arith}
 use native.Mathlib.Nat.{not-suc-le-zero}
-use lib.Dec.{eqb, ltb, leb·suc-suc}
+use lib.Dec.{ltb, leb·suc-suc}
 use lib.ListN.{length, getD, take}
-use borrow.Author.Tests.{eq-eqb, eqb-true, lt-ltb, le-ltb, ltb-true, ltb-false}
-use Rattle.text.proofs.Truth.{and-left, and-right}
+use borrow.Author.Tests.{eq-eqb, lt-ltb, le-ltb, ltb-true, ltb-false}
 use Rattle.text.specs.Same.{same}
+use Rattle.text.proofs.SameLaws.{same-equal}
 use Rattle.source.specs.Lookup.{isAmong, placeOf}
 
 -- ---- names that are the same
@@ -20,18 +20,7 @@ unfolding same
 same-self [] = refl
 same-self (b ∷ t) = rw (eq-eqb b b refl) (same-self t)
 
--- Names that are the same are equal, ..
-pub same-equal : (t u : List ℕ) → same t u ≡ true → t ≡ u
-unfolding same
-same-equal [] [] e = refl
-same-equal [] (c ∷ u) e = absurd (false≢true e)
-same-equal (b ∷ t) [] e = absurd (false≢true e)
-same-equal (b ∷ t) (c ∷ u) e =
-    let first = eqb-true b c (and-left (eqb b c) (same t u) e) in
-    let rest = same-equal t u (and-right (eqb b c) (same t u) e) in
-    cc
-
--- .. and names that are equal are the same.
+-- Names that are equal are the same.
 pub equal-same : (t u : List ℕ) → t ≡ u → same t u ≡ true
 equal-same t u e = rw e (same-self u)
 

@@ -8,8 +8,24 @@ use native.Mathlib.Omega.{arith}
 use lib.Dec.{eqb, ltb}
 use lib.ListN.{length, getD, take, drop, drop-of-length-le}
 use lib.Seq.{drop-cons, length-take-le, getD-take, take-all}
-use borrow.Author.Tests.{eq-eqb, ne-eqb, ltb-true, ltb-false}
+use borrow.Author.Tests.{eq-eqb, ne-eqb, eqb-true, ltb-true, ltb-false}
 use Rattle.text.specs.Same.{same}
+use Rattle.text.proofs.Truth.{and-left, and-right, allBelow, below}
+
+-- Lists that are the same are equal.
+pub same-equal : (s t : List ℕ) → same s t ≡ true → s ≡ t
+unfolding same
+same-equal [] [] e = refl
+same-equal [] (c ∷ t) e = absurd (false≢true e)
+same-equal (b ∷ s) [] e = absurd (false≢true e)
+same-equal (b ∷ s) (c ∷ t) e =
+    let first = eqb-true b c (and-left (eqb b c) (same s t) e) in
+    let rest = same-equal s t (and-right (eqb b c) (same s t) e) in
+    cc
+
+-- A table of texts: a test computed over its n entries gives the rule at each.
+pub table-rule : (entry rule : ℕ → List ℕ) (n : ℕ) → allBelow (λ k. same (entry k) (rule k)) n ≡ true → (k : ℕ) → k < n → entry k ≡ rule k
+table-rule entry rule n e k h = same-equal (entry k) (rule k) (below (λ k. same (entry k) (rule k)) n e k h)
 
 -- Lists of other lengths are not the same.
 pub other-length : (s t : List ℕ) → (length s ≡ length t → ⊥) → false ≡ same s t

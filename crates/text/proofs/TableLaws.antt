@@ -1,4 +1,4 @@
--- A table that is filled from the front holds its rule at each entry filled so far. Assumes nothing.
+-- Tables of numbers: one that is given, by a test computed over it, and one that is filled from the front. Assumes nothing.
 use Prim.Native.Nat.{ℕ, _+_, _≤_, _<_}
 use mathlib.Core.Path.{_≡_, refl, _∙_}
 use mathlib.Core.Bool.{Bool, true, false}
@@ -9,6 +9,13 @@ use lib.Seq.{getD-set-same, getD-set-other}
 use lib.Arith.{lt-of-le-ne}
 use lib.Dec.{eqb}
 use borrow.Author.Tests.{eqb-true, eqb-false}
+use Rattle.text.proofs.Truth.{allBelow, below}
+
+-- A test computed over n entries gives the rule at each.
+pub numbers-rule : (rule : ℕ → ℕ) (t : List ℕ) (n : ℕ) → allBelow (λ k. eqb (getD t k 0) (rule k)) n ≡ true → (k : ℕ) → k < n → getD t k 0 ≡ rule k
+numbers-rule rule t n e k h = eqb-true _ _ (below (λ k. eqb (getD t k 0) (rule k)) n e k h)
+
+-- ---- filled from the front
 
 le-of-lt-add-one : {k n : ℕ} → k < n + 1 → k ≤ n
 le-of-lt-add-one h = omega arith

@@ -26,9 +26,9 @@ length-T pc word rs = simp (length-append, length-digits, length-fields) (omega 
 -- ---- H, L and D
 
 -- The letter, four spaces, eight digits and the LF, beside the cycle, READ or WRITE and the name.
-pub length-H : (c : ℕ) (way : List ℕ) (n x : ℕ) → length (lineH c way n x) ≡ 14 + digitCount 10 c + length way + length (ioName n)
+pub length-H : (c : ℕ) (access : List ℕ) (n x : ℕ) → length (lineH c access n x) ≡ 14 + digitCount 10 c + length access + length (ioName n)
 unfolding lineH
-length-H c way n x = simp (length-append, length-digits, length-decimal) (omega arith)
+length-H c access n x = simp (length-append, length-digits, length-decimal) (omega arith)
 
 -- The letter, two spaces, eight digits and the LF, beside the cycle.
 pub length-LD : (letter c x : ℕ) → length (lineLD (letter ∷ []) c x) ≡ 12 + digitCount 10 c

@@ -2,4 +2,4 @@
 pub mod RegisterTextLaws
 pub mod LengthLaws
 pub mod LineLaws
-pub mod StampLaws
+pub mod PrefixLaws

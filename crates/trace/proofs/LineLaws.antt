@@ -15,7 +15,7 @@ use Rattle.text.proofs.HexWordLaws.{low-beside, low-digits, low-cut, low-front,
 use Rattle.isa.specs.Word.{signExtended}
 use Rattle.isa.specs.Registers.{ioName}
 use Rattle.trace.specs.LogLines.{field, registerFields, registersText, frontT, lineT, lineH, lineLD}
-use Rattle.trace.specs.Stamps.{cycleFront}
+use Rattle.trace.specs.Prefixes.{cyclePrefix}
 use Rattle.text.proofs.PieceLaws.{more, after-store}
 
 -- ---- T
@@ -129,13 +129,13 @@ low-registers-laid xs ys at d e f g h p q r =
 regroup : (f a b c rs l : List ℕ) → f ++ (a ++ b ++ c) ++ (rs ++ l) ≡ f ++ (a ++ (b ++ (c ++ rs))) ++ l
 regroup f a b c rs l = simp append-assoc
 
--- The whole line: the registers after the first three are kept as text.
-pub line-t-laid : (pc word a b at : ℕ) (kept d e f g : List ℕ)
-    → e ≡ put d at (front pc word) → f ≡ put e (at + 18) (three 0 a b) → g ≡ put f (at + 45) kept
-    → g ≡ put d at (frontT pc word a b ++ kept)
+-- The whole line: the registers after the first three are there as text.
+pub line-t-laid : (pc word a b at : ℕ) (text d e f g : List ℕ)
+    → e ≡ put d at (front pc word) → f ≡ put e (at + 18) (three 0 a b) → g ≡ put f (at + 45) text
+    → g ≡ put d at (frontT pc word a b ++ text)
 unfolding frontT
-line-t-laid pc word a b at kept d e f g p q r =
-    more d f g at (at + 45) (front pc word ++ three 0 a b) kept (simp (length-append, length-digits) (omega arith))
+line-t-laid pc word a b at text d e f g p q r =
+    more d f g at (at + 45) (front pc word ++ three 0 a b) text (simp (length-append, length-digits) (omega arith))
     (more d e f at (at + 18) (front pc word) (three 0 a b) (simp (length-append, length-digits) (omega arith)) p q)
     r
 
@@ -147,26 +147,26 @@ line-t-is pc word a b rs = regroup (front pc word) (field (digits 16 8 0)) (fiel
 -- ---- H, L and D
 
 -- An H line, laid in three pieces.
-pub line-h-laid : (c n x at p q : ℕ) (way d e f g : List ℕ) → q ≡ p + 1 + length way
-    → ((rest : List ℕ) → 5 ≤ length rest → put e p rest ≡ put d at (cycleFront (code "H") c ++ rest))
-    → f ≡ put e p (field way) → g ≡ put f q (field (ioName n) ++ (field (digits 16 8 x) ++ (LF ∷ [])))
-    → g ≡ put d at (lineH c way n x)
+pub line-h-laid : (c n x at p q : ℕ) (access d e f g : List ℕ) → q ≡ p + 1 + length access
+    → ((rest : List ℕ) → 5 ≤ length rest → put e p rest ≡ put d at (cyclePrefix (code "H") c ++ rest))
+    → f ≡ put e p (field access) → g ≡ put f q (field (ioName n) ++ (field (digits 16 8 x) ++ (LF ∷ [])))
+    → g ≡ put d at (lineH c access n x)
 unfolding lineH
-line-h-laid c n x at p q way d e f g qe first second last =
-    let front = cycleFront (code "H") c in
+line-h-laid c n x at p q access d e f g qe first second last =
+    let front = cyclePrefix (code "H") c in
     let name = field (ioName n) in
     let value = field (digits 16 8 x) in
-    more e f g p q (field way) _ (omega arith) second last
-    ∙ first (field way ++ (name ++ (value ++ (LF ∷ [])))) (simp (length-append, length-digits) (omega arith))
-    ∙ ap (put d at) (sym (append-assoc front (field way) (name ++ (value ++ (LF ∷ [])))) ∙ sym (append-assoc (front ++ field way) name (value ++ (LF ∷ []))) ∙ sym (append-assoc (front ++ field way ++ name) value (LF ∷ [])))
+    more e f g p q (field access) _ (omega arith) second last
+    ∙ first (field access ++ (name ++ (value ++ (LF ∷ [])))) (simp (length-append, length-digits) (omega arith))
+    ∙ ap (put d at) (sym (append-assoc front (field access) (name ++ (value ++ (LF ∷ [])))) ∙ sym (append-assoc (front ++ field access) name (value ++ (LF ∷ []))) ∙ sym (append-assoc (front ++ field access ++ name) value (LF ∷ [])))
 
 -- An L or D line, laid in two.
 pub line-ld-laid : (letter c x at p : ℕ) (d e f : List ℕ)
-    → ((rest : List ℕ) → 5 ≤ length rest → put e p rest ≡ put d at (cycleFront letter c ++ rest))
+    → ((rest : List ℕ) → 5 ≤ length rest → put e p rest ≡ put d at (cyclePrefix letter c ++ rest))
     → f ≡ put e p (field (digits 16 8 x) ++ (LF ∷ []))
     → f ≡ put d at (lineLD (letter ∷ []) c x)
 unfolding lineLD
 line-ld-laid letter c x at p d e f first last =
     last
     ∙ first (field (digits 16 8 x) ++ (LF ∷ [])) (simp (length-append, length-digits) (omega arith))
-    ∙ ap (put d at) (sym (append-assoc (cycleFront letter c) (field (digits 16 8 x)) (LF ∷ [])))
+    ∙ ap (put d at) (sym (append-assoc (cyclePrefix letter c) (field (digits 16 8 x)) (LF ∷ [])))

@@ -1,4 +1,4 @@
--- The text of registers that is kept beside them. Assumes nothing.
+-- The text of registers. Assumes nothing.
 use Prim.Native.Nat.{ℕ, zero, suc, _+_, _*_, _≤_, _<_}
 use mathlib.Core.Path.{_≡_, refl, _∙_, ap}
 use mathlib.Core.List.{List, [], _∷_, _++_, append-assoc}
@@ -48,29 +48,29 @@ fields-set (r ∷ rs) t (suc k) x h =
     simp append-assoc
     (rw (size, put-after (field (digits 16 8 r)) (registerFields rs ++ t) (k * 9 + 1) (digits 16 8 x), fields-set rs t k x (omega arith)))
 
--- So the kept text is changed where a register is.
-pub text-set : (rs kept after : List ℕ) (k x : ℕ) → k < length rs → kept ≡ registersText rs → after ≡ put kept (k * 9 + 1) (digits 16 8 x)
+-- So the text is changed where a register is.
+pub text-set : (rs text after : List ℕ) (k x : ℕ) → k < length rs → text ≡ registersText rs → after ≡ put text (k * 9 + 1) (digits 16 8 x)
     → after ≡ registersText (set rs k x)
 unfolding registersText
-text-set rs kept after k x h p q = rw (q, p) (fields-set rs (LF ∷ []) k x h)
+text-set rs text after k x h p q = rw (q, p) (fields-set rs (LF ∷ []) k x h)
 
 -- ---- register after register
 
 module _ (regs : List ℕ) (n : ℕ) where
   -- The register n was laid at a place, and the text of those after it is left.
-  pub lay-turn : (kept after : List ℕ) (at to : ℕ) → n < length regs → after ≡ put kept at (field (digits 16 8 (getD regs n 0))) → to ≡ at + 9
-      → put after to (registersText (drop (n + 1) regs)) ≡ put kept at (registersText (drop n regs))
+  pub lay-turn : (text after : List ℕ) (at to : ℕ) → n < length regs → after ≡ put text at (field (digits 16 8 (getD regs n 0))) → to ≡ at + 9
+      → put after to (registersText (drop (n + 1) regs)) ≡ put text at (registersText (drop n regs))
   unfolding registersText registerFields
-  lay-turn kept after at to h p q =
+  lay-turn text after at to h p q =
       rw (add-one n, drop-cons regs n 0 h, append-assoc)
-      (more kept after _ at to (field (digits 16 8 (getD regs n 0))) _ (simp length-digits (omega arith)) p refl)
+      (more text after _ at to (field (digits 16 8 (getD regs n 0))) _ (simp length-digits (omega arith)) p refl)
 
   -- No register is left, only the LF.
-  pub lay-end : (kept : List ℕ) (at to : ℕ) → length regs ≤ n → to ≡ at → set kept to LF ≡ put kept at (registersText (drop n regs))
+  pub lay-end : (text : List ℕ) (at to : ℕ) → length regs ≤ n → to ≡ at → set text to LF ≡ put text at (registersText (drop n regs))
   unfolding registersText registerFields
-  lay-end kept at to h q = rw (drop-of-length-le regs h, q, put-one)
+  lay-end text at to h q = rw (drop-of-length-le regs h, q, put-one)
 
 -- The text of 13 registers is all of 118 bytes.
-pub lay-whole : (regs kept : List ℕ) → length regs ≡ 16 → length kept ≡ 118 → put kept 0 (registersText (drop 3 regs)) ≡ registersText (drop 3 regs)
+pub lay-whole : (regs text : List ℕ) → length regs ≡ 16 → length text ≡ 118 → put text 0 (registersText (drop 3 regs)) ≡ registersText (drop 3 regs)
 unfolding registersText
-lay-whole regs kept p q = put-all kept (registersText (drop 3 regs)) (simp (length-append, length-fields, length-drop) (omega arith))
+lay-whole regs text p q = put-all text (registersText (drop 3 regs)) (simp (length-append, length-fields, length-drop) (omega arith))

@@ -1,3 +1,3 @@
--- The lines of the log, and the text of registers and the stamp that are kept beside them.
+-- The lines of the log, and the text of registers and the prefix that the code holds.
 pub mod LogLines
-pub mod Stamps
+pub mod Prefixes

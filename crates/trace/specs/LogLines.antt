@@ -22,11 +22,11 @@ lineT pc word rs = bytes "T" ++ field (digits 16 3 pc) ++ field (digits 16 12 wo
 
 -- "H: cycle c in decimal, READ or WRITE, register name, value read or R[rm] (8)."
 unfoldable pub lineH : ℕ → List ℕ → ℕ → ℕ → List ℕ
-lineH c way n x = bytes "H" ++ field (decimal c) ++ field way ++ field (ioName n) ++ field (digits 16 8 x) ++ (LF ∷ [])
+lineH c access n x = bytes "H" ++ field (decimal c) ++ field access ++ field (ioName n) ++ field (digits 16 8 x) ++ (LF ∷ [])
 
 -- "READ or WRITE"
-abbrev pub wayOf : Bool → List ℕ
-wayOf writes = cond writes (bytes "WRITE") (bytes "READ")
+abbrev pub accessName : Bool → List ℕ
+accessName writes = cond writes (bytes "WRITE") (bytes "READ")
 
 -- "L and D: cycle, new value (8)."
 unfoldable pub lineLD : List ℕ → ℕ → ℕ → List ℕ
@@ -40,6 +40,6 @@ frontT pc word imm1 imm2 =
     bytes "T" ++ field (digits 16 3 pc) ++ field (digits 16 12 word)
     ++ (field (digits 16 8 0) ++ field (digits 16 8 imm1) ++ field (digits 16 8 imm2))
 
--- Its end, the text that is kept beside R3 to R15.
+-- Its end, the text of R3 to R15.
 unfoldable pub registersText : List ℕ → List ℕ
 registersText rs = registerFields rs ++ (LF ∷ [])

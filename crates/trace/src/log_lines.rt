@@ -1,7 +1,7 @@
 // The lines T, H, L and D.
 use crate::fields::put_last_digits;
 use crate::fields::put_named_digits;
-use crate::stamps::put_cycle;
+use crate::prefixes::put_cycle;
 use isa::io::io_name_length;
 use text::decimal::digit_count;
 use text::hex_words::hex_word;
@@ -16,8 +16,8 @@ ghost use Rattle.text.specs.Bytes.{bytes};
 ghost use Rattle.text.specs.Numerals.{digits, lowBytes, HexWords};
 ghost use Rattle.text.specs.Place.{put};
 ghost use Rattle.isa.specs.Word.{signExtended};
-ghost use Rattle.trace.specs.LogLines.{field, frontT, lineH, lineLD, wayOf};
-ghost use Rattle.trace.specs.Stamps.{Serves};
+ghost use Rattle.trace.specs.LogLines.{field, frontT, lineH, lineLD, accessName};
+ghost use Rattle.trace.specs.Prefixes.{ValidFor};
 
 // The digits that an immediate below 2,048 gets in front, and those that another gets.
 const FIVE_0: u64 = 0x30_3030_3030;
@@ -27,25 +27,25 @@ const FIVE_F: u64 = 0x46_4646_4646;
 // What a 0 in byte 5 is above a blank, less a T and a blank in bytes 0 and 1.
 const LETTER_AND_BLANKS: u64 = 0x1000_0000_0000 - 0x2054;
 
-// Lays the T line of an instruction at a place and returns the place after it: its front and `kept`, the text of R3 to R15. R1 and R2 are the
+// Lays the T line of an instruction at a place and returns the place after it: its front and `text`, the text of R3 to R15. R1 and R2 are the
 // word's immediates.
 pub fn put_line_t(
     out: &mut [u8],
     at: usize,
     pc: u32,
     word: u64,
-    kept: &[u8; 118],
+    text: &[u8; 118],
     table: &[u64; 1024],
 ) -> usize
-    requires { ⌜ (at + 163 ≤ length (now out)) × ((length (now kept) ≡ 118) × HexWords (now table)) ⌝ }
-    ensures { λ r. ⌜ (now (out .exit) ≡ put (now (out .entry)) at (frontT pc word (signExtended (word / 2 ^ 12 % 2 ^ 12)) (signExtended (word % 2 ^ 12)) ++ now (kept .entry))) × (r ≡ at + 163) ⌝ }
+    requires { ⌜ (at + 163 ≤ length (now out)) × ((length (now text) ≡ 118) × HexWords (now table)) ⌝ }
+    ensures { λ r. ⌜ (now (out .exit) ≡ put (now (out .entry)) at (frontT pc word (signExtended (word / 2 ^ 12 % 2 ^ 12)) (signExtended (word % 2 ^ 12)) ++ now (text .entry))) × (r ≡ at + 163) ⌝ }
 {
     let low = hex_word((word % 0x1_0000_0000) as u32, table);
     put_instruction(out, at, pc, word, low, table);
     let first = immediate_digits(word / 0x1000 % 0x1000, low / 0x1_0000 % 0x100_0000);
     let second = immediate_digits(word % 0x1000, low / 0x100_0000_0000);
     put_low_registers(out, at + 18, first, second);
-    put_bytes(out, at + 45, kept)
+    put_bytes(out, at + 45, text)
 }
 
 // The first 18 bytes of a T line: its letter, PC and the word. `low` holds the word's last eight digits.
@@ -91,7 +91,7 @@ fn immediate_digits(immediate: u64, low: u64) -> u64
     FIVE_F + low * 0x100_0000_0000
 }
 
-// Lays an H line at a place and returns the place after it; `writes`: WRITE, else READ. The stamp serves its cycle.
+// Lays an H line at a place and returns the place after it; `writes`: WRITE, else READ. The prefix is valid for its cycle.
 pub fn put_line_h(
     out: &mut [u8],
     at: usize,
@@ -100,22 +100,22 @@ pub fn put_line_h(
     n: u32,
     x: u32,
     table: &[u64; 1024],
-    stamp: &[u64; 7],
+    prefix: &[u64; 7],
 ) -> usize
-    requires { ⌜ (at + length (lineH c (wayOf writes) n x) ≤ length (now out)) × (HexWords (now table) × Serves c (now stamp)) ⌝ }
-    ensures { λ r. ⌜ (now (out .exit) ≡ put (now (out .entry)) at (lineH c (wayOf writes) n x)) × (r ≡ at + length (lineH c (wayOf writes) n x)) ⌝ }
+    requires { ⌜ (at + length (lineH c (accessName writes) n x) ≤ length (now out)) × (HexWords (now table) × ValidFor c (now prefix)) ⌝ }
+    ensures { λ r. ⌜ (now (out .exit) ≡ put (now (out .entry)) at (lineH c (accessName writes) n x)) × (r ≡ at + length (lineH c (accessName writes) n x)) ⌝ }
 {
     let held = hex_word(x, table);
-    let way_at = put_cycle(out, at, b'H', c, stamp, table);
+    let access_at = put_cycle(out, at, b'H', c, prefix, table);
     if writes {
-        let name_at = put_bytes(out, way_at, b" WRITE");
+        let name_at = put_bytes(out, access_at, b" WRITE");
         return put_named_digits(out, name_at, n, held);
     }
-    let name_at = put_bytes(out, way_at, b" READ");
+    let name_at = put_bytes(out, access_at, b" READ");
     put_named_digits(out, name_at, n, held)
 }
 
-// Lays an L or D line at a place and returns the place after it. The stamp serves its cycle.
+// Lays an L or D line at a place and returns the place after it. The prefix is valid for its cycle.
 pub fn put_line_ld(
     out: &mut [u8],
     at: usize,
@@ -123,26 +123,26 @@ pub fn put_line_ld(
     c: u64,
     x: u32,
     table: &[u64; 1024],
-    stamp: &[u64; 7],
+    prefix: &[u64; 7],
 ) -> usize
-    requires { ⌜ (at + length (lineLD (letter ∷ []) c x) ≤ length (now out)) × (HexWords (now table) × Serves c (now stamp)) ⌝ }
+    requires { ⌜ (at + length (lineLD (letter ∷ []) c x) ≤ length (now out)) × (HexWords (now table) × ValidFor c (now prefix)) ⌝ }
     ensures { λ r. ⌜ (now (out .exit) ≡ put (now (out .entry)) at (lineLD (letter ∷ []) c x)) × (r ≡ at + length (lineLD (letter ∷ []) c x)) ⌝ }
 {
     let held = hex_word(x, table);
-    let value_at = put_cycle(out, at, letter, c, stamp, table);
+    let value_at = put_cycle(out, at, letter, c, prefix, table);
     put_last_digits(out, value_at, held)
 }
 
 // How many bytes an H line has, whatever its value.
 pub fn line_h_length(c: u64, writes: bool, n: u32) -> usize
-    ensures { λ r. ⌜ ((x : ℕ) → r ≡ length (lineH c (wayOf writes) n x)) ⌝ }
+    ensures { λ r. ⌜ ((x : ℕ) → r ≡ length (lineH c (accessName writes) n x)) ⌝ }
 {
-    digit_count(c) + way_length(writes) + io_name_length(n) + 14
+    digit_count(c) + access_length(writes) + io_name_length(n) + 14
 }
 
 // How many bytes READ or WRITE has.
-fn way_length(writes: bool) -> usize
-    ensures { λ r. ⌜ (r ≡ length (wayOf writes)) × (r ≤ 5) ⌝ }
+fn access_length(writes: bool) -> usize
+    ensures { λ r. ⌜ (r ≡ length (accessName writes)) × (r ≤ 5) ⌝ }
 {
     if writes { 5 } else { 4 }
 }

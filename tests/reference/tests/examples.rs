@@ -342,7 +342,7 @@ fn lights() {
 /// The program course runs copies of the examples' files.
 #[test]
 fn course_has_the_files() {
-    let data = concat!(env!("CARGO_MANIFEST_DIR"), "/../../crates/course/data");
+    let data = concat!(env!("CARGO_MANIFEST_DIR"), "/../../crates/check_examples/data");
     let mut count = 0;
     for folder in std::fs::read_dir(data).expect("course's data") {
         let folder = folder.unwrap();

@@ -1,7 +1,7 @@
 -- `simlog::run_image` meets its contract.
 use mathlib.Core.Path.{refl}
-use borrow.Author.Needs.{needs}
 use Rattle.files.specs.Irq2File.{rising}
+use borrow.Author.Needs.{needs}
 use Rattle.simlog.proofs.run_image.Statement.{statement}
 use Rattle.simlog.proofs.run_image.Tie as tie
 
@@ -13,11 +13,8 @@ run-budget-requires : tie.Need-run-budget-requires
 unfolding rising
 run-budget-requires c κs = refl
 
-print-line-e-requires : tie.Need-print-line-e-requires
-print-line-e-requires c κs = search needs
-
 returns : tie.Need-returns
 returns c = search needs
 
 pub run-image-spec : {M : Type 1} → statement M
-run-image-spec = tie.close (tie.spec slice-aggregate-run-budget run-budget-requires print-line-e-requires returns)
+run-image-spec = tie.close (tie.spec slice-aggregate-run-budget run-budget-requires returns)

@@ -1,5 +1,5 @@
 -- `assembler::calls::refused` meets its contract.
-use mathlib.Core.Path.{_≡_, refl, sym, ap}
+use mathlib.Core.Path.{sym, ap}
 use native.Mathlib.Omega.{arith}
 use Rattle.text.specs.Questions.{refused}
 use Rattle.assembler.proofs.calls.refused.Statement.{statement}

@@ -3,26 +3,26 @@ use borrow.Author.Needs.{needs}
 use Rattle.commands.proofs.assembling.assemble_file.Statement.{statement}
 use Rattle.commands.proofs.assembling.assemble_file.Tie as tie
 
-has-same-requires : tie.Need-has-same-requires
-has-same-requires c κs = search needs
+names-clash-requires : tie.Need-names-clash-requires
+names-clash-requires c κs = search needs
 
 returns : tie.Need-returns
 returns c = search needs
 
-slice-aggregate-read-front : tie.Need-slice-aggregate-read-front
-slice-aggregate-read-front c = search needs
+slice-aggregate-read-front-at : tie.Need-slice-aggregate-read-front-at
+slice-aggregate-read-front-at c = search needs
 
-read-front-requires : tie.Need-read-front-requires
-read-front-requires c κs = search needs
+read-front-at-requires : tie.Need-read-front-at-requires
+read-front-at-requires c κs = search needs
 
 enum-known-n : tie.Need-enum-known-n
 enum-known-n c = search needs
 
 array-share-prefix-text : tie.Need-array-share-prefix-text
-array-share-prefix-text c = let got = rw (c .before .n .given .1) at (c .before .before .before .before .read-front .ensures) in got .0
+array-share-prefix-text c = let got = rw (c .before .n .given .1) at (c .before .before .before .before .read-front-at .ensures) in got .0
 
 slice-aggregate-assemble-text : tie.Need-slice-aggregate-assemble-text
-slice-aggregate-assemble-text c = let got = rw (c .before .before .n .given .1) at (c .before .before .before .before .before .read-front .ensures) in got .1
+slice-aggregate-assemble-text c = let got = rw (c .before .before .n .given .1) at (c .before .before .before .before .before .read-front-at .ensures) in got .1
 
 assemble-text-requires : tie.Need-assemble-text-requires
 assemble-text-requires c κs = search needs
@@ -40,10 +40,10 @@ pub assemble-file-spec : {M : Type 1} → statement M
 assemble-file-spec =
     tie.close
     (tie.spec
-    has-same-requires
+    names-clash-requires
     returns
-    slice-aggregate-read-front
-    read-front-requires
+    slice-aggregate-read-front-at
+    read-front-at-requires
     enum-known-n
     array-share-prefix-text
     slice-aggregate-assemble-text

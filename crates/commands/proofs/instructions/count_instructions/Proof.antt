@@ -7,7 +7,7 @@ use borrow.Author.Needs.{needs}
 use Rattle.commands.proofs.CountLaws.{one-at-most, one-counted, all-counted}
 use Rattle.text.specs.Lines.{lines}
 use Rattle.lines.specs.Parts.{mostPlaces}
-use Rattle.assembler.specs.Text.{codeCount}
+use Rattle.labels.specs.Text.{codeCount}
 use Rattle.commands.proofs.instructions.count_instructions.Statement.{statement}
 use Rattle.commands.proofs.instructions.count_instructions.Tie as tie
 

@@ -1,21 +1,18 @@
 -- `console::path::put_new_path` meets its contract.
-use mathlib.Core.Path.{sym}
-use Prim.Native.Nat.{_≤_}
 use native.Mathlib.Omega.{arith}
-use lib.ListN.{length}
-use lib.Seq.{length-take-le}
 use borrow.Author.Needs.{needs}
+use Rattle.console.proofs.AppendLaws.{no-path, path-laid}
 use Rattle.console.proofs.path.put_new_path.Statement.{statement}
 use Rattle.console.proofs.path.put_new_path.Tie as tie
 
 returns : tie.Need-returns
-returns c = search needs
+returns c = no-path _ _ (omega arith)
 
 sub-if2 : tie.Need-sub-if2
 sub-if2 c = search needs
 
 returns-2 : tie.Need-returns-2
-returns-2 c = search needs
+returns-2 c = no-path _ _ (omega arith)
 
 put-bytes-requires : tie.Need-put-bytes-requires
 put-bytes-requires c κs = search needs
@@ -30,9 +27,7 @@ same-length : tie.Need-same-length
 same-length c = search needs
 
 returns-3 : tie.Need-returns-3
-returns-3 c =
-    let fits : c .before .before .put-bytes2 .result ≤ length (c .before .before .put-bytes2 .last .0) = omega (arith, c .before .before .put-bytes2 .ensures .1, c .before .before .put-bytes2 .kept .0, c .before .before .before .before .before .before .before .put-bytes .ensures .1, c .before .before .before .before .before .before .before .put-bytes .kept .0, c .before .before .before .before .before .before .before .before .before .if2 .left, c .before .before .before .before .before .before .before .before .before .before .if1 .left) in
-    (fits, sym (length-take-le _ _ fits))
+returns-3 c = path-laid _ _ _ _ _ _ (omega (arith, c .before .before .before .before .before .before .before .before .before .if2 .left, c .before .before .before .before .before .before .before .before .before .before .if1 .left)) (c .before .before .before .before .before .before .before .put-bytes .ensures .0) (c .before .before .before .before .before .before .before .put-bytes .ensures .1) (c .before .before .put-bytes2 .ensures .0) (c .before .before .put-bytes2 .ensures .1)
 
 pub put-new-path-spec : {M : Type 1} → statement M
 put-new-path-spec =

@@ -1,55 +1,50 @@
 -- `console::sentences::put_sentence` meets its contract.
+use mathlib.Core.Path.{sym}
 use native.Mathlib.Omega.{arith}
+use lib.ListN.{length-take}
+use lib.Seq.{length-take-le}
 use borrow.Author.Needs.{needs}
-use Rattle.console.proofs.LineLaws.{nothing-laid, none-first, none-above}
+use Rattle.console.proofs.LineLaws.{nothing-laid, none-above}
 use Rattle.console.proofs.sentences.put_sentence.Statement.{statement}
 use Rattle.console.proofs.sentences.put_sentence.Tie as tie
 
-put-line-sentence-requires : tie.Need-put-line-sentence-requires
-put-line-sentence-requires c κs = search needs
+returns : tie.Need-returns
+returns c = let none = nothing-laid _ _ _ (none-above (c .before .before .args .number) (omega arith)) in (none .0, none .1, omega arith)
 
-put-label-and-file-sentence-requires : tie.Need-put-label-and-file-sentence-requires
-put-label-and-file-sentence-requires c κs = search needs
+sentence-row-requires : tie.Need-sentence-row-requires
+sentence-row-requires c κs = search needs
 
-put-cycle-and-record-sentence-requires : tie.Need-put-cycle-and-record-sentence-requires
-put-cycle-and-record-sentence-requires c κs = search needs
+sentence-length-requires : tie.Need-sentence-length-requires
+sentence-length-requires c κs = search needs
+
+array-share-prefix-row : tie.Need-array-share-prefix-row
+array-share-prefix-row c = search needs
+
+slice-aggregate-put-bytes : tie.Need-slice-aggregate-put-bytes
+slice-aggregate-put-bytes c = sym (length-take-le _ _ (omega (arith, c .before .before .sentence-length .ensures .1, c .before .before .before .sentence-row .ensures .0)))
+
+put-bytes-requires : tie.Need-put-bytes-requires
+put-bytes-requires c κs = simp length-take (omega (arith, c .before .before .sentence-length .ensures .1))
 
 same-length : tie.Need-same-length
 same-length c = search needs
 
-returns : tie.Need-returns
-returns c = search needs
-
-same-length-2 : tie.Need-same-length-2
-same-length-2 c = search needs
-
 returns-2 : tie.Need-returns-2
-returns-2 c = search needs
-
-same-length-3 : tie.Need-same-length-3
-same-length-3 c = search needs
-
-returns-3 : tie.Need-returns-3
-returns-3 c = search needs
-
-returns-4 : tie.Need-returns-4
-returns-4 c = let a = c .before .before .args in let laid = nothing-laid (a .out .now) (a .at) _ (none-first (a .number) (omega arith)) in (laid .0, laid .1, omega arith)
-
-returns-5 : tie.Need-returns-5
-returns-5 c = let a = c .before .before .before .before .before .args in let laid = nothing-laid (a .out .now) (a .at) _ (none-above (a .number) (omega arith)) in (laid .0, laid .1, omega arith)
+returns-2 c =
+    let size = c .before .before .before .before .before .sentence-length .ensures in
+    let row = c .before .before .before .before .before .before .sentence-row .ensures in
+    let laid = rw (size .0, row .1) at (c .before .before .put-bytes .ensures) in
+    (laid .0, laid .1, omega (arith, laid .1, size .0, size .1))
 
 pub put-sentence-spec : {M : Type 1} → statement M
 put-sentence-spec =
     tie.close
     (tie.spec
-    put-line-sentence-requires
-    put-label-and-file-sentence-requires
-    put-cycle-and-record-sentence-requires
-    same-length
     returns
-    same-length-2
-    returns-2
-    same-length-3
-    returns-3
-    returns-4
-    returns-5)
+    sentence-row-requires
+    sentence-length-requires
+    array-share-prefix-row
+    slice-aggregate-put-bytes
+    put-bytes-requires
+    same-length
+    returns-2)

@@ -21,8 +21,8 @@ paint-requires c κs = let p = c .before .before .before .before .before .before
 onward-requires-2 : tie.Need-onward-requires-2
 onward-requires-2 c κs = search needs
 
-keep-requires : tie.Need-keep-requires
-keep-requires c κs = search needs
+low-bits-requires : tie.Need-low-bits-requires
+low-bits-requires c κs = search needs
 
 mul-io : tie.Need-mul-io
 mul-io c = search needs
@@ -61,7 +61,7 @@ unfolding outputted
 returns-4 c = λ regs.
     let a = c .before .before .before .before .before .before .args .a in
     let rest = c .before .before .match .rest in
-    rw (ne-eqb a 14 (rest .0 .0 .1), ne-eqb a 17 (rest .0 .1), ne-eqb a 22 (rest .1), c .onward3 .ensures, c .before .keep .ensures) refl
+    rw (ne-eqb a 14 (rest .0 .0 .1), ne-eqb a 17 (rest .0 .1), ne-eqb a 22 (rest .1), c .onward3 .ensures, c .before .low-bits .ensures) refl
 
 pub put-io-spec : {M : Type 1} → statement M
 put-io-spec =
@@ -71,7 +71,7 @@ put-io-spec =
     onward-requires
     paint-requires
     onward-requires-2
-    keep-requires
+    low-bits-requires
     mul-io
     element-write-io
     onward-requires-3

@@ -3,7 +3,7 @@ use mathlib.Core.Path.{refl}
 use native.Mathlib.Omega.{arith}
 use borrow.Author.Tests.{lt-ltb}
 use borrow.Author.Needs.{needs}
-use Rattle.executor.proofs.RegisterLaws.{kept-length, kept-written}
+use Rattle.executor.proofs.RegisterLaws.{text-length, text-written}
 use Rattle.executor.proofs.registers.put_register.Statement.{statement}
 use Rattle.executor.proofs.registers.put_register.Tie as tie
 
@@ -16,14 +16,14 @@ mul-regs c = search needs
 element-write-regs : tie.Need-element-write-regs
 element-write-regs c = search needs
 
-keep-register-requires : tie.Need-keep-register-requires
-keep-register-requires c κs = let p = c .before .before .pre in (omega arith, (kept-length (p .1 .0), p .1 .1))
+put-register-digits-requires : tie.Need-put-register-digits-requires
+put-register-digits-requires c κs = let p = c .before .before .pre in (omega arith, (text-length (p .1 .0), p .1 .1))
 
 returns-2 : tie.Need-returns-2
 returns-2 c =
     let a = c .before .before .before .args in
-    kept-written (a .regs .now) (a .text .now) _ (a .n) (a .x) (c .before .before .if1 .left) (c .before .before .before .pre .0) (c .before .before .before .pre .1 .0) (c .keep-register .ensures)
+    text-written (a .regs .now) (a .text .now) _ (a .n) (a .x) (c .before .before .if1 .left) (c .before .before .before .pre .0) (c .before .before .before .pre .1 .0) (c .put-register-digits .ensures)
 
 pub put-register-spec : {M : Type 1} → statement M
 put-register-spec =
-    tie.close (tie.spec returns mul-regs element-write-regs keep-register-requires returns-2)
+    tie.close (tie.spec returns mul-regs element-write-regs put-register-digits-requires returns-2)

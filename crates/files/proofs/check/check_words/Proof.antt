@@ -7,13 +7,13 @@ use lib.ListN.{length, drop}
 use borrow.Author.Tests.{not-true, not-false}
 use Rattle.text.specs.Questions.{accepted, firstBad}
 use Rattle.text.specs.Lines.{lines, firstLine}
-use Rattle.files.specs.MemoryFile.{isWord, wordQuestions, linesTold}
+use Rattle.files.specs.MemoryFile.{isWord, wordQuestions, linesOutcome}
 use Rattle.files.proofs.CheckLaws.{check-full, check-bad, check-good, check-end, word-inside}
 use Rattle.files.proofs.check.check_words.Statement.{statement}
 use Rattle.files.proofs.check.check_words.Tie as tie
 
 abbrev Inv-loop : tie.InvT-loop
-Inv-loop text k room values at₀ i₀ at i = (firstBad (wordQuestions k room) i (lines (drop at text)) (accepted 0) ≡ linesTold k room text) × (i ≤ at) × (at ≤ length text + 1)
+Inv-loop text k room values at₀ i₀ at i = (firstBad (wordQuestions k room) i (lines (drop at text)) (accepted 0) ≡ linesOutcome k room text) × (i ≤ at) × (at ≤ length text + 1)
 
 abbrev μ-loop : tie.MeasureT-loop
 μ-loop text k room values at₀ i₀ at i = length text + 1 - at
@@ -26,7 +26,7 @@ within : (c : tie.Else2 Inv-loop μ-loop) → c .before .before .before .before 
 within c = word-inside (c .before .before .before .before .before .before .args .k) (c .before .before .before .before .before .before .args .text .now) (c .before .before .before .before .loop .at) (good-line c) (c .before .before .before .loop-test .taken)
 
 loop-holds : tie.Need-loop-holds Inv-loop μ-loop
-unfolding linesTold
+unfolding linesOutcome
 loop-holds c = (refl, omega arith, omega arith)
 
 add-t9 : tie.Need-add-t9 Inv-loop μ-loop

@@ -7,7 +7,7 @@ use native.Mathlib.Omega.{arith}
 use lib.ListN.{length, take, drop, length-set}
 use Rattle.text.specs.Questions.{accepted, firstBad}
 use Rattle.text.specs.Lines.{lines, firstLine}
-use Rattle.files.specs.MemoryFile.{wordQuestions, linesTold, fileWords}
+use Rattle.files.specs.MemoryFile.{wordQuestions, linesOutcome, fileWords}
 use Rattle.files.proofs.CheckLaws.{good-room, good-word, good-fits, good-next}
 use Rattle.files.proofs.FillLaws.{fill-turn, fill-end, word-lt}
 use Rattle.files.proofs.fill.fill_frame.Statement.{statement}
@@ -38,7 +38,7 @@ fill-fits c =
     good-fits 2 (length (a .frame .now)) (a .text .now) (l .at) (l .i) (c .before .loop-test .taken) (l .inv .1)
 
 loop-holds : tie.Need-loop-holds Inv-loop μ-loop
-unfolding linesTold
+unfolding linesOutcome
 loop-holds c = (rw sub-zero, c .before .before .pre .0, refl, omega arith, omega arith)
 
 word-requires : tie.Need-word-requires Inv-loop μ-loop

@@ -9,14 +9,14 @@ use Rattle.text.specs.Numerals.{value}
 use Rattle.text.specs.Lines.{lines}
 use Rattle.text.proofs.DigitLaws.{number-yes, number-no, number-value}
 use Rattle.text.proofs.LineLaws.{lines-at}
-use Rattle.files.specs.Irq2File.{isCycle, cycleQuestions, irq2Told}
+use Rattle.files.specs.Irq2File.{isCycle, cycleQuestions, irq2Outcome}
 use Rattle.files.proofs.Irq2Laws.{leastAfter, next-is, least-next, cycle-full, cycle-bad, cycle-low, cycle-good, cycle-end, count-end, cycle-below}
 use Rattle.files.proofs.irq2.check_cycles.Statement.{statement}
 use Rattle.files.proofs.irq2.check_cycles.Tie as tie
 
 abbrev Inv-loop : tie.InvT-loop
 Inv-loop text room values at₀ i₀ least₀ at i least =
-    (firstBad (cycleQuestions room (lines text)) i (lines (drop at text)) (accepted (length (lines text))) ≡ irq2Told room text)
+    (firstBad (cycleQuestions room (lines text)) i (lines (drop at text)) (accepted (length (lines text))) ≡ irq2Outcome room text)
     × (lines (drop at text) ≡ drop i (lines text))
     × (least ≡ leastAfter (lines text) i)
     × (i + length (lines (drop at text)) ≡ length (lines text))
@@ -34,7 +34,7 @@ below c =
     cycle-below line _ (sym (c .before .before .before .before .line-cycle .ensures) ∙ c .before .before .cycle .given .1)
 
 loop-holds : tie.Need-loop-holds Inv-loop μ-loop
-unfolding irq2Told leastAfter
+unfolding irq2Outcome leastAfter
 loop-holds c = (refl, refl, refl, omega arith, omega arith, omega arith)
 
 add-t11 : tie.Need-add-t11 Inv-loop μ-loop
@@ -88,10 +88,10 @@ returns-3 c =
     let a = c .before .before .before .before .before .before .before .before .before .before .before .args in
     let e = c .before .before .before .before .before .before .short-line-end in
     let line = take (e .result - l .at) (drop (l .at) (a .text .now)) in
-    let told = sym (c .before .before .before .before .line-cycle .ensures) ∙ c .before .before .cycle .given .1 in
-    let is = number-value (isCycle line) (value 10 line) _ told in
+    let outcome = sym (c .before .before .before .before .line-cycle .ensures) ∙ c .before .before .cycle .given .1 in
+    let is = number-value (isCycle line) (value 10 line) _ outcome in
     cycle-low (a .room) (a .text .now) (l .at) (l .i) (e .result) (c .before .before .before .before .before .before .before .before .loop-test .taken) (e .ensures .0) _ (c .before .before .before .before .before .before .before .if1 .left)
-    (number-yes (isCycle line) (value 10 line) _ told) (rw (← is, ← (l .inv .2)) (c .if2 .taken)) ∙ l .inv .0
+    (number-yes (isCycle line) (value 10 line) _ outcome) (rw (← is, ← (l .inv .2)) (c .if2 .taken)) ∙ l .inv .0
 
 add-least : tie.Need-add-least Inv-loop μ-loop
 add-least c = omega (arith, below c)
@@ -112,12 +112,12 @@ loop-again c =
     let e = c .before .before .before .before .before .before .short-line-end in
     let inside = c .before .before .before .before .before .before .before .before .loop-test .taken in
     let line = take (e .result - l .at) (drop (l .at) (a .text .now)) in
-    let told = sym (c .before .before .before .before .line-cycle .ensures) ∙ c .before .before .cycle .given .1 in
-    let is = number-value (isCycle line) (value 10 line) _ told in
+    let outcome = sym (c .before .before .before .before .line-cycle .ensures) ∙ c .before .before .cycle .given .1 in
+    let is = number-value (isCycle line) (value 10 line) _ outcome in
     let split = lines-at (a .text .now) (l .at) (e .result) inside (e .ensures .0) in
     let from = sym split ∙ l .inv .1 in
     let size = ap length split in (
-      cycle-good (a .room) (a .text .now) (l .at) (l .i) (e .result) inside (e .ensures .0) _ (c .before .before .before .before .before .before .before .if1 .left) (number-yes (isCycle line) (value 10 line) _ told)
+      cycle-good (a .room) (a .text .now) (l .at) (l .i) (e .result) inside (e .ensures .0) _ (c .before .before .before .before .before .before .before .if1 .left) (number-yes (isCycle line) (value 10 line) _ outcome)
           (rw (← is, ← (l .inv .2)) (c .if2 .left)) ∙ l .inv .0,
       next-is (lines (a .text .now)) (l .i) line _ from,
       rw is (least-next (lines (a .text .now)) (l .i) line _ from),

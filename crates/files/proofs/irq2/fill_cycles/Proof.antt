@@ -8,7 +8,7 @@ use Rattle.text.specs.Questions.{accepted, firstBad}
 use Rattle.text.specs.Numerals.{value}
 use Rattle.text.specs.Lines.{lines}
 use Rattle.text.specs.Place.{put}
-use Rattle.files.specs.Irq2File.{cycleQuestions, irq2Told, fileCycles}
+use Rattle.files.specs.Irq2File.{cycleQuestions, irq2Outcome, fileCycles}
 use Rattle.files.proofs.Irq2Laws.{cycle-room, cycle-form, cycle-next, cycle-turn, cycles-end}
 use Rattle.files.proofs.irq2.fill_cycles.Statement.{statement}
 use Rattle.files.proofs.irq2.fill_cycles.Tie as tie
@@ -32,7 +32,7 @@ fill-room c =
     cycle-room (length (a .cycles .now)) (a .text .now) (l .at) (l .i) (e .result) (length (lines (a .text .now))) (c .before .before .before .loop-test .taken) (e .ensures .0) (l .inv .1)
 
 loop-holds : tie.Need-loop-holds Inv-loop μ-loop
-unfolding irq2Told
+unfolding irq2Outcome
 loop-holds c = (refl, c .before .before .pre .0, refl, omega arith)
 
 short-line-end-requires : tie.Need-short-line-end-requires Inv-loop μ-loop

@@ -3,8 +3,8 @@ use mathlib.Core.Path.{refl, sym, _∙_, ap}
 use lib.ListN.{length}
 use borrow.Author.Tests.{eq-eqb, ne-eqb}
 use borrow.Author.Needs.{needs}
-use Rattle.text.specs.Questions.{Told}
-use Rattle.files.specs.Answers.{fileReadTold}
+use Rattle.text.specs.declared.Outcome.{Outcome}
+use Rattle.files.specs.Answers.{fileReadOutcome}
 use Rattle.files.specs.Sizes.{isImageLength}
 use Rattle.files.proofs.AnswerLaws.{read-wrong-length, read-refused, read-filled}
 use Rattle.files.proofs.read.read_image.Statement.{statement}
@@ -23,7 +23,7 @@ enum-told : tie.Need-enum-told
 enum-told c = search needs
 
 fill-image-requires : tie.Need-fill-image-requires
-fill-image-requires c κs = (ap (λ (t : Told). t .number) (sym (c .before .before .before .before .check-words .ensures) ∙ ap fileReadTold (c .before .before .enum-told .given .1)), c .before .before .before .before .before .before .digit-values .ensures)
+fill-image-requires c κs = (ap (λ (t : Outcome). t .number) (sym (c .before .before .before .before .check-words .ensures) ∙ ap fileReadOutcome (c .before .before .enum-told .given .1)), c .before .before .before .before .before .before .digit-values .ensures)
 
 enum-told-2 : tie.Need-enum-told-2
 enum-told-2 c = search needs
@@ -40,22 +40,22 @@ same-length c = search needs
 returns-2 : tie.Need-returns-2
 returns-2 c =
     let a = c .before .before .before .before .before .before .before .before .before .before .before .before .before .args in
-    read-filled 12 isImageLength (a .text .now) (a .image .now) (eq-eqb (length (a .image .now)) 4096 (c .before .before .before .before .before .before .before .before .before .before .if1 .left)) _ (sym (ap fileReadTold (c .before .before .before .before .before .enum-told .given .1)) ∙ c .before .before .before .before .before .before .before .check-words .ensures) (c .before .before .fill-image .ensures)
+    read-filled 12 isImageLength (a .text .now) (a .image .now) (eq-eqb (length (a .image .now)) 4096 (c .before .before .before .before .before .before .before .before .before .before .if1 .left)) _ (sym (ap fileReadOutcome (c .before .before .before .before .before .enum-told .given .1)) ∙ c .before .before .before .before .before .before .before .check-words .ensures) (c .before .before .fill-image .ensures)
 
 returns-3 : tie.Need-returns-3
 returns-3 c =
     let a = c .before .before .before .before .before .before .before .before .args in
-    read-refused 12 isImageLength (a .text .now) (a .image .now) (eq-eqb (length (a .image .now)) 4096 (c .before .before .before .before .before .if1 .left)) _ (sym (ap fileReadTold (c .enum-told2 .given .1)) ∙ c .before .before .check-words .ensures) refl
+    read-refused 12 isImageLength (a .text .now) (a .image .now) (eq-eqb (length (a .image .now)) 4096 (c .before .before .before .before .before .if1 .left)) _ (sym (ap fileReadOutcome (c .enum-told2 .given .1)) ∙ c .before .before .check-words .ensures) refl
 
 returns-4 : tie.Need-returns-4
 returns-4 c =
     let a = c .before .before .before .before .before .before .before .before .before .args in
-    read-refused 12 isImageLength (a .text .now) (a .image .now) (eq-eqb (length (a .image .now)) 4096 (c .before .before .before .before .before .before .if1 .left)) _ (sym (ap fileReadTold (c .before .line .given .1)) ∙ c .before .before .before .check-words .ensures) refl
+    read-refused 12 isImageLength (a .text .now) (a .image .now) (eq-eqb (length (a .image .now)) 4096 (c .before .before .before .before .before .before .if1 .left)) _ (sym (ap fileReadOutcome (c .before .line .given .1)) ∙ c .before .before .before .check-words .ensures) refl
 
 returns-5 : tie.Need-returns-5
 returns-5 c =
     let a = c .before .before .before .before .before .before .before .before .before .args in
-    read-refused 12 isImageLength (a .text .now) (a .image .now) (eq-eqb (length (a .image .now)) 4096 (c .before .before .before .before .before .before .if1 .left)) _ (sym (ap fileReadTold (c .before .line2 .given .1)) ∙ c .before .before .before .check-words .ensures) refl
+    read-refused 12 isImageLength (a .text .now) (a .image .now) (eq-eqb (length (a .image .now)) 4096 (c .before .before .before .before .before .before .if1 .left)) _ (sym (ap fileReadOutcome (c .before .line2 .given .1)) ∙ c .before .before .before .check-words .ensures) refl
 
 pub read-image-spec : {M : Type 1} → statement M
 read-image-spec =

@@ -2,8 +2,8 @@
 use mathlib.Core.Path.{refl, sym, _∙_, ap}
 use mathlib.Core.Bool.{true}
 use borrow.Author.Needs.{needs}
-use Rattle.text.specs.Questions.{Told}
-use Rattle.files.specs.Answers.{fileReadTold}
+use Rattle.text.specs.declared.Outcome.{Outcome}
+use Rattle.files.specs.Answers.{fileReadOutcome}
 use Rattle.files.proofs.AnswerLaws.{read-refused, read-filled}
 use Rattle.files.proofs.read.read_words.Statement.{statement}
 use Rattle.files.proofs.read.read_words.Tie as tie
@@ -18,7 +18,7 @@ enum-told : tie.Need-enum-told
 enum-told c = search needs
 
 fill-words-requires : tie.Need-fill-words-requires
-fill-words-requires c κs = (ap (λ (t : Told). t .number) (sym (c .before .before .before .before .check-words .ensures) ∙ ap fileReadTold (c .before .before .enum-told .given .1)), c .before .before .before .before .before .before .digit-values .ensures)
+fill-words-requires c κs = (ap (λ (t : Outcome). t .number) (sym (c .before .before .before .before .check-words .ensures) ∙ ap fileReadOutcome (c .before .before .enum-told .given .1)), c .before .before .before .before .before .before .digit-values .ensures)
 
 enum-told-2 : tie.Need-enum-told-2
 enum-told-2 c = search needs
@@ -35,22 +35,22 @@ same-length c = search needs
 returns : tie.Need-returns
 returns c =
     let a = c .before .before .before .before .before .before .before .before .before .before .before .before .args in
-    read-filled 8 (λ n. true) (a .text .now) (a .memory .now) refl _ (sym (ap fileReadTold (c .before .before .before .before .before .enum-told .given .1)) ∙ c .before .before .before .before .before .before .before .check-words .ensures) (c .before .before .fill-words .ensures)
+    read-filled 8 (λ n. true) (a .text .now) (a .memory .now) refl _ (sym (ap fileReadOutcome (c .before .before .before .before .before .enum-told .given .1)) ∙ c .before .before .before .before .before .before .before .check-words .ensures) (c .before .before .fill-words .ensures)
 
 returns-2 : tie.Need-returns-2
 returns-2 c =
     let a = c .before .before .before .before .before .before .before .args in
-    read-refused 8 (λ n. true) (a .text .now) (a .memory .now) refl _ (sym (ap fileReadTold (c .enum-told2 .given .1)) ∙ c .before .before .check-words .ensures) refl
+    read-refused 8 (λ n. true) (a .text .now) (a .memory .now) refl _ (sym (ap fileReadOutcome (c .enum-told2 .given .1)) ∙ c .before .before .check-words .ensures) refl
 
 returns-3 : tie.Need-returns-3
 returns-3 c =
     let a = c .before .before .before .before .before .before .before .before .args in
-    read-refused 8 (λ n. true) (a .text .now) (a .memory .now) refl _ (sym (ap fileReadTold (c .before .line .given .1)) ∙ c .before .before .before .check-words .ensures) refl
+    read-refused 8 (λ n. true) (a .text .now) (a .memory .now) refl _ (sym (ap fileReadOutcome (c .before .line .given .1)) ∙ c .before .before .before .check-words .ensures) refl
 
 returns-4 : tie.Need-returns-4
 returns-4 c =
     let a = c .before .before .before .before .before .before .before .before .args in
-    read-refused 8 (λ n. true) (a .text .now) (a .memory .now) refl _ (sym (ap fileReadTold (c .before .line2 .given .1)) ∙ c .before .before .before .check-words .ensures) refl
+    read-refused 8 (λ n. true) (a .text .now) (a .memory .now) refl _ (sym (ap fileReadOutcome (c .before .line2 .given .1)) ∙ c .before .before .before .check-words .ensures) refl
 
 pub read-words-spec : {M : Type 1} → statement M
 read-words-spec =

@@ -16,8 +16,7 @@ has-shape-requires c κs = search needs
 returns : tie.Need-returns
 returns c =
     let s = c .before .before .before .before .before .before .before in
-    let a = c .before .has-shape in
-    (is-nothing (s .args .line .now) (a .result) (a .ensures) (c .if1 .taken), shape-parts (s .pre .0) (s .pre .1) _ _ (omega arith) (a .result) (a .ensures) (c .if1 .taken))
+    (is-nothing (s .args .line .now) (c .before .has-shape .ensures) (c .if1 .taken), shape-parts (s .pre .0) (s .pre .1) _ _ (omega arith) (c .before .has-shape .ensures) (c .if1 .taken))
 
 is-lone-definition-requires : tie.Need-is-lone-definition-requires
 is-lone-definition-requires c κs = search needs
@@ -25,9 +24,7 @@ is-lone-definition-requires c κs = search needs
 returns-2 : tie.Need-returns-2
 returns-2 c =
     let s = c .before .before .before .before .before .before .before .before .before in
-    let a = c .before .before .before .has-shape in
-    let b = c .before .is-lone-definition in
-    (is-label (s .args .line .now) (a .result) (a .ensures) (c .before .before .if1 .left) (b .result) (b .ensures directive) (c .if2 .taken), shape-parts (s .pre .0) (s .pre .1) directive (bytes ":") (omega arith) (b .result) (b .ensures directive) (c .if2 .taken))
+    (is-label (s .args .line .now) (c .before .before .before .has-shape .ensures) (c .before .before .if1 .left) (c .before .is-lone-definition .ensures directive) (c .if2 .taken), shape-parts (s .pre .0) (s .pre .1) directive (bytes ":") (omega arith) (c .before .is-lone-definition .ensures directive) (c .if2 .taken))
 
 slice-aggregate-has-shape-2 : tie.Need-slice-aggregate-has-shape-2
 slice-aggregate-has-shape-2 c = search needs
@@ -38,10 +35,7 @@ has-shape-requires-2 c κs = search needs
 returns-3 : tie.Need-returns-3
 returns-3 c =
     let s = c .before .before .before .before .before .before .before .before .before .before .before .before .before in
-    let a = c .before .before .before .before .before .before .before .has-shape in
-    let b = c .before .before .before .before .before .is-lone-definition in
-    let d = c .before .has-shape2 in
-    (is-code (s .args .line .now) (a .result) (a .ensures) (c .before .before .before .before .before .before .if1 .left) (b .result) (b .ensures directive) (c .before .before .before .before .if2 .left) (d .result) (d .ensures) (c .if3 .taken), shape-parts (s .pre .0) (s .pre .1) _ _ (omega arith) (d .result) (d .ensures) (c .if3 .taken))
+    (is-code (s .args .line .now) (c .before .before .before .before .before .before .before .has-shape .ensures) (c .before .before .before .before .before .before .if1 .left) (c .before .before .before .before .before .is-lone-definition .ensures directive) (c .before .before .before .before .if2 .left) (c .before .has-shape2 .ensures) (c .if3 .taken), shape-parts (s .pre .0) (s .pre .1) _ _ (omega arith) (c .before .has-shape2 .ensures) (c .if3 .taken))
 
 slice-aggregate-has-shape-3 : tie.Need-slice-aggregate-has-shape-3
 slice-aggregate-has-shape-3 c = search needs
@@ -52,11 +46,7 @@ has-shape-requires-3 c κs = search needs
 returns-4 : tie.Need-returns-4
 returns-4 c =
     let s = c .before .before .before .before .before .before .before .before .before .before .before .before .before .before .before .before .before in
-    let a = c .before .before .before .before .before .before .before .before .before .before .before .has-shape in
-    let b = c .before .before .before .before .before .before .before .before .before .is-lone-definition in
-    let d = c .before .before .before .before .before .has-shape2 in
-    let l = c .before .has-shape3 in
-    (is-labelled (s .args .line .now) (a .result) (a .ensures) (c .before .before .before .before .before .before .before .before .before .before .if1 .left) (b .result) (b .ensures directive) (c .before .before .before .before .before .before .before .before .if2 .left) (d .result) (d .ensures) (c .before .before .before .before .if3 .left) (l .result) (l .ensures) (c .if4 .taken), shape-parts (s .pre .0) (s .pre .1) _ _ (omega arith) (l .result) (l .ensures) (c .if4 .taken))
+    (is-labelled (s .args .line .now) (c .before .before .before .before .before .before .before .before .before .before .before .has-shape .ensures) (c .before .before .before .before .before .before .before .before .before .before .if1 .left) (c .before .before .before .before .before .before .before .before .before .is-lone-definition .ensures directive) (c .before .before .before .before .before .before .before .before .if2 .left) (c .before .before .before .before .before .has-shape2 .ensures) (c .before .before .before .before .if3 .left) (c .before .has-shape3 .ensures) (c .if4 .taken), shape-parts (s .pre .0) (s .pre .1) _ _ (omega arith) (c .before .has-shape3 .ensures) (c .if4 .taken))
 
 slice-aggregate-has-shape-4 : tie.Need-slice-aggregate-has-shape-4
 slice-aggregate-has-shape-4 c = search needs
@@ -67,22 +57,12 @@ has-shape-requires-4 c κs = search needs
 returns-5 : tie.Need-returns-5
 returns-5 c =
     let s = c .before .before .before .before .before .before .before .before .before .before .before .before .before .before .before .before .before .before .before .before .before in
-    let a = c .before .before .before .before .before .before .before .before .before .before .before .before .before .before .before .has-shape in
-    let b = c .before .before .before .before .before .before .before .before .before .before .before .before .before .is-lone-definition in
-    let d = c .before .before .before .before .before .before .before .before .before .has-shape2 in
-    let l = c .before .before .before .before .before .has-shape3 in
-    let w = c .before .has-shape4 in
-    (is-word (s .args .line .now) (a .result) (a .ensures) (c .before .before .before .before .before .before .before .before .before .before .before .before .before .before .if1 .left) (b .result) (b .ensures directive) (c .before .before .before .before .before .before .before .before .before .before .before .before .if2 .left) (d .result) (d .ensures) (c .before .before .before .before .before .before .before .before .if3 .left) (l .result) (l .ensures) (c .before .before .before .before .if4 .left) (w .result) (w .ensures) (c .if5 .taken), shape-parts (s .pre .0) (s .pre .1) _ _ (omega arith) (w .result) (w .ensures) (c .if5 .taken))
+    (is-word (s .args .line .now) (c .before .before .before .before .before .before .before .before .before .before .before .before .before .before .before .has-shape .ensures) (c .before .before .before .before .before .before .before .before .before .before .before .before .before .before .if1 .left) (c .before .before .before .before .before .before .before .before .before .before .before .before .before .is-lone-definition .ensures directive) (c .before .before .before .before .before .before .before .before .before .before .before .before .if2 .left) (c .before .before .before .before .before .before .before .before .before .has-shape2 .ensures) (c .before .before .before .before .before .before .before .before .if3 .left) (c .before .before .before .before .before .has-shape3 .ensures) (c .before .before .before .before .if4 .left) (c .before .has-shape4 .ensures) (c .if5 .taken), shape-parts (s .pre .0) (s .pre .1) _ _ (omega arith) (c .before .has-shape4 .ensures) (c .if5 .taken))
 
 returns-6 : tie.Need-returns-6
 returns-6 c =
     let s = c .before .before .before .before .before .before .before .before .before .before .before .before .before .before .before .before .before .before .before .before .before in
-    let a = c .before .before .before .before .before .before .before .before .before .before .before .before .before .before .before .has-shape in
-    let b = c .before .before .before .before .before .before .before .before .before .before .before .before .before .is-lone-definition in
-    let d = c .before .before .before .before .before .before .before .before .before .has-shape2 in
-    let l = c .before .before .before .before .before .has-shape3 in
-    let w = c .before .has-shape4 in
-    (is-wrong (s .args .line .now) (a .result) (a .ensures) (c .before .before .before .before .before .before .before .before .before .before .before .before .before .before .if1 .left) (b .result) (b .ensures directive) (c .before .before .before .before .before .before .before .before .before .before .before .before .if2 .left) (d .result) (d .ensures) (c .before .before .before .before .before .before .before .before .if3 .left) (l .result) (l .ensures) (c .before .before .before .before .if4 .left) (w .result) (w .ensures) (c .if5 .left), omega arith)
+    (is-wrong (s .args .line .now) (c .before .before .before .before .before .before .before .before .before .before .before .before .before .before .before .has-shape .ensures) (c .before .before .before .before .before .before .before .before .before .before .before .before .before .before .if1 .left) (c .before .before .before .before .before .before .before .before .before .before .before .before .before .is-lone-definition .ensures directive) (c .before .before .before .before .before .before .before .before .before .before .before .before .if2 .left) (c .before .before .before .before .before .before .before .before .before .has-shape2 .ensures) (c .before .before .before .before .before .before .before .before .if3 .left) (c .before .before .before .before .before .has-shape3 .ensures) (c .before .before .before .before .if4 .left) (c .before .has-shape4 .ensures) (c .if5 .left), omega arith)
 
 pub shape-form-spec : {M : Type 1} → statement M
 shape-form-spec =

@@ -2,15 +2,18 @@
 use native.Mathlib.Omega.{arith}
 use borrow.Author.Needs.{needs}
 use Rattle.words.proofs.WordLaws.{reads as held}
-use Rattle.lister.proofs.ImmediateLaws.{small, negative-length, plain-length, immediate-most}
+use Rattle.lister.proofs.ImmediateLaws.{small, signed-length, immediate-most}
 use Rattle.lister.proofs.immediates.immediate_length.Statement.{statement}
 use Rattle.lister.proofs.immediates.immediate_length.Tie as tie
 
 signed-immediate-requires : tie.Need-signed-immediate-requires
 signed-immediate-requires c κs = search needs
 
+sign-length-requires : tie.Need-sign-length-requires
+sign-length-requires c κs = let z = c .signed-immediate in small (c .before .args .immediate) _ (c .before .pre) (held (z .ok) (z .ensures))
+
 magnitude-requires : tie.Need-magnitude-requires
-magnitude-requires c κs = let z = c .signed-immediate in small (c .before .args .immediate) _ (c .before .pre) (held (z .ok) (z .ensures))
+magnitude-requires c κs = let z = c .before .signed-immediate in small (c .before .before .args .immediate) _ (c .before .before .pre) (held (z .ok) (z .ensures))
 
 cast-digit-count : tie.Need-cast-digit-count
 cast-digit-count c = search needs
@@ -23,18 +26,10 @@ add-result c = search needs
 
 returns : tie.Need-returns
 returns c =
-    let start = c .before .before .before .before in
+    let s = c .before .before .before .before in
     let z = c .before .before .before .signed-immediate in
-    let whole = negative-length (start .args .immediate) _ (start .pre) (held (z .ok) (z .ensures)) _ (c .before .before .magnitude .ensures) (c .if1 .taken) in
-    let most = immediate-most (start .args .immediate) (start .pre) in
-    (omega arith, omega arith)
-
-returns-2 : tie.Need-returns-2
-returns-2 c =
-    let start = c .before .before .before .before in
-    let z = c .before .before .before .signed-immediate in
-    let whole = plain-length (start .args .immediate) _ (start .pre) (held (z .ok) (z .ensures)) _ (c .before .before .magnitude .ensures) (c .if1 .left) in
-    let most = immediate-most (start .args .immediate) (start .pre) in
+    let whole = signed-length (s .args .immediate) _ (s .pre) (held (z .ok) (z .ensures)) _ (c .before .magnitude .ensures) in
+    let most = immediate-most (s .args .immediate) (s .pre) in
     (omega arith, omega arith)
 
 pub immediate-length-spec : {M : Type 1} → statement M
@@ -42,9 +37,9 @@ immediate-length-spec =
     tie.close
     (tie.spec
     signed-immediate-requires
+    sign-length-requires
     magnitude-requires
     cast-digit-count
     digit-count-requires
     add-result
-    returns
-    returns-2)
+    returns)

@@ -1,53 +1,61 @@
 -- `lister::line::put_line` meets its contract.
 use native.Mathlib.Omega.{arith}
 use borrow.Author.Needs.{needs}
-use Rattle.lister.proofs.LineLaws.{fits, length-line, line-laid}
+use Rattle.lister.proofs.LineLaws.{fits, length-pieces, line-laid}
 use Rattle.lister.proofs.line.put_line.Statement.{statement}
 use Rattle.lister.proofs.line.put_line.Tie as tie
 
 decode-requires : tie.Need-decode-requires
 decode-requires c κs = search needs
 
-put-operation-requires : tie.Need-put-operation-requires
-put-operation-requires c κs =
-    let d = c .before in
-    let whole = length-line (d .before .before .args .word) _ (d .decode .ensures) in
-    omega arith
+operation-place-requires : tie.Need-operation-place-requires
+operation-place-requires c κs = search needs
+
+put-piece-requires : tie.Need-put-piece-requires
+put-piece-requires c κs =
+    let s = c .before .before .before .before in
+    let whole = length-pieces (s .args .word) _ (c .before .before .decode .ensures) in
+    (omega (arith, s .pre .0), omega arith, s .pre .1)
 
 put-registers-requires : tie.Need-put-registers-requires
 put-registers-requires c κs =
-    let d = c .before .before .before .before .before in
-    let word = d .before .before .args .word in
-    let whole = length-line word _ (d .decode .ensures) in
-    (fits word _ (d .decode .ensures) .rm, omega arith)
+    let s = c .before .before .before .before .before .before .before .before in
+    let d = c .before .before .before .before .before .before .decode in
+    let f = fits (s .args .word) _ (d .ensures) in
+    let whole = length-pieces (s .args .word) _ (d .ensures) in
+    let laid = rw (c .before .before .before .before .operation-place .ensures .1) at (c .before .before .before .put-piece .ensures .1) in
+    (f .rd, f .rs, f .rt, f .rm, omega (arith, s .pre .0), s .pre .1)
 
 put-immediates-requires : tie.Need-put-immediates-requires
 put-immediates-requires c κs =
-    let d = c .before .before .before .before .before .before .before .before .before in
-    let word = d .before .before .args .word in
-    let whole = length-line word _ (d .decode .ensures) in
-    let f = fits word _ (d .decode .ensures) in
-    (f .imm1, (f .imm2, omega arith))
+    let s = c .before .before .before .before .before .before .before .before .before .before .before .before in
+    let d = c .before .before .before .before .before .before .before .before .before .before .decode in
+    let f = fits (s .args .word) _ (d .ensures) in
+    let whole = length-pieces (s .args .word) _ (d .ensures) in
+    let laid = rw (c .before .before .before .before .before .before .before .before .operation-place .ensures .1) at (c .before .before .before .before .before .before .before .put-piece .ensures .1) in
+    (f .imm1, (f .imm2, omega (arith, s .pre .0)))
 
 same-length : tie.Need-same-length
 same-length c = search needs
 
 returns : tie.Need-returns
 returns c =
-    let d = c .before .before .before .before .before .before .before .before .before .before .before .before in
-    let a = d .before .before .args in
-    let name = c .before .before .before .before .before .before .before .before .before .before .put-operation .ensures in
+    let a = c .before .before .before .before .before .before .before .before .before .before .before .before .before .before .before .args in
+    let d = c .before .before .before .before .before .before .before .before .before .before .before .before .before .decode in
+    let there = c .before .before .before .before .before .before .before .before .before .before .before .operation-place .ensures .1 in
+    let name = rw there at (c .before .before .before .before .before .before .before .before .before .before .put-piece .ensures) in
     let registers = c .before .before .before .before .before .before .put-registers .ensures in
     let immediates = c .before .before .put-immediates .ensures in
-    let whole = length-line (a .word) _ (d .decode .ensures) in
-    (line-laid (a .word) _ (a .at) _ _ (a .out .now) _ _ _ (d .decode .ensures) (name .0) (registers .0) (immediates .0), omega arith)
+    let whole = length-pieces (a .word) _ (d .ensures) in
+    (line-laid (a .word) _ (a .at) _ _ (a .out .now) _ _ _ (d .ensures) (name .0) (registers .0) (immediates .0), omega arith)
 
 pub put-line-spec : {M : Type 1} → statement M
 put-line-spec =
     tie.close
     (tie.spec
     decode-requires
-    put-operation-requires
+    operation-place-requires
+    put-piece-requires
     put-registers-requires
     put-immediates-requires
     same-length

@@ -4,14 +4,14 @@ use mathlib.Core.Path.{_≡_, refl, sym, _∙_}
 use native.Mathlib.Omega.{arith}
 use lib.ListN.{length, drop}
 use borrow.Author.Needs.{needs}
-use Rattle.text.specs.Questions.{Told}
+use Rattle.text.specs.declared.Outcome.{Outcome}
 use Rattle.lister.specs.Calls.{firstUnknown}
 use Rattle.lister.proofs.ListingLaws.{unknown-turn, unknown-here, unknown-past, found, not-found}
 use Rattle.lister.proofs.listing.first_unknown.Statement.{statement}
 use Rattle.lister.proofs.listing.first_unknown.Tie as tie
 
 abbrev Inv-loop : tie.InvT-loop
-Inv-loop words i₀ i = ((next : Told) → firstUnknown i (drop i words) next ≡ firstUnknown 0 words next) × (i ≤ length words)
+Inv-loop words i₀ i = ((next : Outcome) → firstUnknown i (drop i words) next ≡ firstUnknown 0 words next) × (i ≤ length words)
 
 abbrev μ-loop : tie.MeasureT-loop
 μ-loop words i₀ i = length words - i

@@ -10,10 +10,13 @@ use Rattle.lister.proofs.listing.text_length.Statement.{statement}
 use Rattle.lister.proofs.listing.text_length.Tie as tie
 
 abbrev Inv-loop : tie.InvT-loop
-Inv-loop words total₀ i₀ total i = (total + length (listing (drop i words)) ≡ length (listing words)) × ((total ≤ 46 * i) × (i ≤ length words))
+Inv-loop words table total₀ i₀ total i = (total + length (listing (drop i words)) ≡ length (listing words)) × ((total ≤ 46 * i) × (i ≤ length words))
 
 abbrev μ-loop : tie.MeasureT-loop
-μ-loop words total₀ i₀ total i = length words - i
+μ-loop words table total₀ i₀ total i = length words - i
+
+name-pieces-requires : tie.Need-name-pieces-requires Inv-loop μ-loop
+name-pieces-requires c κs = search needs
 
 loop-holds : tie.Need-loop-holds Inv-loop μ-loop
 loop-holds c = (omega arith, (omega arith, omega arith))
@@ -25,7 +28,7 @@ shared-slice-read-line-length : tie.Need-shared-slice-read-line-length Inv-loop 
 shared-slice-read-line-length c = omega arith
 
 line-length-requires : tie.Need-line-length-requires Inv-loop μ-loop
-line-length-requires c κs = search needs
+line-length-requires c κs = c .before .before .before .before .name-pieces .ensures
 
 add-total : tie.Need-add-total Inv-loop μ-loop
 add-total c = omega arith
@@ -38,14 +41,14 @@ loop-less c = omega arith
 
 loop-again : tie.Need-loop-again Inv-loop μ-loop
 loop-again c =
-    let l = c .before .before .before .loop in
-    let line = length-turn (c .before .before .before .before .before .args .words .now) (l .i) (omega arith) in
+    let l = c .before .before .before .before .loop in
+    let line = length-turn (c .before .before .before .before .before .before .before .args .words .now) (l .i) (omega arith) in
     (omega arith, (omega arith, omega arith))
 
 returns : tie.Need-returns Inv-loop μ-loop
 returns c =
     let l = c .before .loop in
-    let none = length-end (c .before .before .before .args .words .now) (l .i) (omega arith) in
+    let none = length-end (c .before .before .before .before .args .words .now) (l .i) (omega arith) in
     omega arith
 
 pub text-length-spec : {M : Type 1} → statement M
@@ -54,6 +57,7 @@ text-length-spec =
     (tie.spec
     Inv-loop
     μ-loop
+    name-pieces-requires
     loop-holds
     mul-line-length
     shared-slice-read-line-length

@@ -1,11 +1,7 @@
 -- `memories::cycles::load_irq2` meets its contract.
-use mathlib.Core.Path.{refl}
 use borrow.Author.Needs.{needs}
 use Rattle.memories.proofs.cycles.load_irq2.Statement.{statement}
 use Rattle.memories.proofs.cycles.load_irq2.Tie as tie
-
-front-requires : tie.Need-front-requires
-front-requires c κs = search needs
 
 slice-aggregate-read-front : tie.Need-slice-aggregate-read-front
 slice-aggregate-read-front c = search needs
@@ -19,35 +15,34 @@ enum-known-n c = search needs
 array-share-prefix-text : tie.Need-array-share-prefix-text
 array-share-prefix-text c = let got = rw (c .before .n .given .1) at (c .before .before .before .before .read-front .ensures) in got .0
 
-slice-aggregate-count-cycles : tie.Need-slice-aggregate-count-cycles
-slice-aggregate-count-cycles c = let got = rw (c .before .before .n .given .1) at (c .before .before .before .before .before .read-front .ensures) in got .1
+slice-aggregate-fill-cycles : tie.Need-slice-aggregate-fill-cycles
+slice-aggregate-fill-cycles c = let got = rw (c .before .before .n .given .1) at (c .before .before .before .before .before .read-front .ensures) in got .1
 
-count-cycles-requires : tie.Need-count-cycles-requires
-count-cycles-requires c κs = search needs
+fill-cycles-requires : tie.Need-fill-cycles-requires
+fill-cycles-requires c κs = search needs
 
 same-length : tie.Need-same-length
 same-length c = search needs
 
 returns : tie.Need-returns
-returns c = c .before .before .count-cycles .ensures .1
+returns c = search needs
 
 enum-told : tie.Need-enum-told
 enum-told c = search needs
 
 returns-2 : tie.Need-returns-2
-returns-2 c = refl
+returns-2 c = search needs
 
 pub load-irq2-spec : {M : Type 1} → statement M
 load-irq2-spec =
     tie.close
     (tie.spec
-    front-requires
     slice-aggregate-read-front
     read-front-requires
     enum-known-n
     array-share-prefix-text
-    slice-aggregate-count-cycles
-    count-cycles-requires
+    slice-aggregate-fill-cycles
+    fill-cycles-requires
     same-length
     returns
     enum-told

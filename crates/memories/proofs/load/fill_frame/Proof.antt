@@ -1,25 +1,32 @@
 -- `memories::load::fill_frame` meets its contract.
+use mathlib.Core.Path.{sym}
+use native.Mathlib.Omega.{arith}
+use lib.ListN.{length}
+use lib.Seq.{length-take-le}
+use borrow.Author.Tests.{eqb-true}
 use borrow.Author.Needs.{needs}
-use Rattle.memories.proofs.LoadLaws.{filled}
+use Rattle.memories.proofs.LoadLaws.{front-read}
 use Rattle.memories.proofs.load.fill_frame.Statement.{statement}
 use Rattle.memories.proofs.load.fill_frame.Tie as tie
+
+slice-aggregate-read-frame : tie.Need-slice-aggregate-read-frame
+slice-aggregate-read-frame c = sym (length-take-le _ _ (c .before .before .before .pre .1))
 
 read-frame-requires : tie.Need-read-frame-requires
 read-frame-requires c κs = search needs
 
-file-told-requires : tie.Need-file-told-requires
-file-told-requires c κs = search needs
-
-is-accepted-requires : tie.Need-is-accepted-requires
-is-accepted-requires c κs = search needs
+outcome-requires : tie.Need-outcome-requires
+outcome-requires c κs = search needs
 
 same-length : tie.Need-same-length
 same-length c = search needs
 
 returns : tie.Need-returns
-returns c = filled (c .before .before .before .before .read-frame .ensures) _ (c .before .file-told .ensures) (c .is-accepted .ensures)
+returns c =
+    let start = c .before .before .before .before .before .before .before .before in
+    front-read (start .args .buffer .now) (start .args .n) (c .before .before .before .read-frame .ensures) (c .outcome .ensures) (λ e. omega (arith, eqb-true (length (start .args .frame .now)) 65536 e, start .pre .0))
 
 pub fill-frame-spec : {M : Type 1} → statement M
 fill-frame-spec =
     tie.close
-    (tie.spec read-frame-requires file-told-requires is-accepted-requires same-length returns)
+    (tie.spec slice-aggregate-read-frame read-frame-requires outcome-requires same-length returns)

@@ -1,7 +1,7 @@
 -- `memories::records::fresh` meets its contract.
 use mathlib.Core.Path.{refl}
 use borrow.Author.Needs.{needs}
-use Rattle.pieces.proofs.PieceLaws.{fresh-sound}
+use Rattle.saved.proofs.SoundTest.{fresh-sound}
 use Rattle.memories.proofs.records.fresh.Statement.{statement}
 use Rattle.memories.proofs.records.fresh.Tie as tie
 

@@ -3,7 +3,7 @@ use mathlib.Core.Path.{refl}
 use borrow.Author.Tests.{not-true, not-false}
 use borrow.Author.Needs.{needs}
 use Rattle.runner.specs.Lab.{standingOf}
-use Rattle.runner.proofs.RunLaws.{so, right-lengths, run-accepted, told-length, told-rising, told-unsound, run-refused}
+use Rattle.runner.proofs.RunLaws.{so, right-lengths, run-accepted, outcome-length, outcome-rising, outcome-unsound, run-refused}
 use Rattle.runner.specs.declared.RunAnswer.the-variants as RunAnswer
 use Rattle.runner.proofs.calls.run.Statement.{statement}
 use Rattle.runner.proofs.calls.run.Tie as tie
@@ -18,7 +18,7 @@ returns : tie.Need-returns
 returns c =
     let a = c .before .before .before .before .before .before .before .before .before .args in
     let lengths = so (c .before .before .are-lengths .ensures) (not-true _ (c .before .if1 .taken)) in
-    run-refused (a .image .now) (a .irq2 .now) (a .memory .now) (a .disk .now) (a .frame .now) (a .log .now) (a .state) (a .budget) RunAnswer.WrongLength (told-length (standingOf (a .image .now) (a .state) (a .memory .now) (a .disk .now) (a .frame .now)) (a .irq2 .now) (a .log .now) (a .budget) lengths) refl refl (c .refused .result) (c .refused .ensures)
+    run-refused (a .image .now) (a .irq2 .now) (a .memory .now) (a .disk .now) (a .frame .now) (a .log .now) (a .state) (a .budget) RunAnswer.WrongLength (outcome-length (standingOf (a .image .now) (a .state) (a .memory .now) (a .disk .now) (a .frame .now)) (a .irq2 .now) (a .log .now) (a .budget) lengths) refl refl (c .refused .result) (c .refused .ensures)
 
 is-rising-requires : tie.Need-is-rising-requires
 is-rising-requires c κs = search needs
@@ -31,7 +31,7 @@ returns-2 c =
     let a = c .before .before .before .before .before .before .before .before .before .before .before .args in
     let lengths = so (c .before .before .before .before .are-lengths .ensures) (not-false _ (c .before .before .before .if1 .left)) in
     let up = so (c .before .before .is-rising .ensures) (not-true _ (c .before .if2 .taken)) in
-    run-refused (a .image .now) (a .irq2 .now) (a .memory .now) (a .disk .now) (a .frame .now) (a .log .now) (a .state) (a .budget) RunAnswer.NotRising (told-rising (standingOf (a .image .now) (a .state) (a .memory .now) (a .disk .now) (a .frame .now)) (a .irq2 .now) (a .log .now) (a .budget) lengths up) refl refl (c .refused2 .result) (c .refused2 .ensures)
+    run-refused (a .image .now) (a .irq2 .now) (a .memory .now) (a .disk .now) (a .frame .now) (a .log .now) (a .state) (a .budget) RunAnswer.NotRising (outcome-rising (standingOf (a .image .now) (a .state) (a .memory .now) (a .disk .now) (a .frame .now)) (a .irq2 .now) (a .log .now) (a .budget) lengths up) refl refl (c .refused2 .result) (c .refused2 .ensures)
 
 is-sound-requires : tie.Need-is-sound-requires
 is-sound-requires c κs = search needs
@@ -45,7 +45,7 @@ returns-3 c =
     let lengths = so (c .before .before .before .before .before .before .are-lengths .ensures) (not-false _ (c .before .before .before .before .before .if1 .left)) in
     let up = so (c .before .before .before .before .is-rising .ensures) (not-false _ (c .before .before .before .if2 .left)) in
     let sound = so (c .before .before .is-sound .ensures) (not-true _ (c .before .if3 .taken)) in
-    run-refused (a .image .now) (a .irq2 .now) (a .memory .now) (a .disk .now) (a .frame .now) (a .log .now) (a .state) (a .budget) RunAnswer.Unsound (told-unsound (standingOf (a .image .now) (a .state) (a .memory .now) (a .disk .now) (a .frame .now)) (a .irq2 .now) (a .log .now) (a .budget) lengths up sound) refl refl (c .refused3 .result) (c .refused3 .ensures)
+    run-refused (a .image .now) (a .irq2 .now) (a .memory .now) (a .disk .now) (a .frame .now) (a .log .now) (a .state) (a .budget) RunAnswer.Unsound (outcome-unsound (standingOf (a .image .now) (a .state) (a .memory .now) (a .disk .now) (a .frame .now)) (a .irq2 .now) (a .log .now) (a .budget) lengths up sound) refl refl (c .refused3 .result) (c .refused3 .ensures)
 
 run-sound-requires : tie.Need-run-sound-requires
 run-sound-requires c κs =

@@ -6,8 +6,8 @@ use lib.ListN.{length}
 use borrow.Author.Tests.{not-true, not-false}
 use borrow.Author.Needs.{needs}
 use Rattle.machine.specs.declared.Core.{Core}
-use Rattle.trace.specs.Stamps.{IsStamp}
-use Rattle.trace.proofs.StampLaws.{no-stamp}
+use Rattle.trace.specs.Prefixes.{IsPrefix}
+use Rattle.trace.proofs.PrefixLaws.{no-prefix}
 use Rattle.executor.specs.Lent.{packed}
 use Rattle.runner.specs.Irq2Place.{awaitedAt}
 use Rattle.runner.proofs.Irq2Laws.{hit-at}
@@ -17,16 +17,16 @@ use Rattle.runner.proofs.cycles.make_cycles.Statement.{statement}
 use Rattle.runner.proofs.cycles.make_cycles.Tie as tie
 
 abbrev Inv-loop : tie.InvT-loop
-Inv-loop start regs₀ text₀ io₀ image memory₀ disk₀ frame₀ irq2 budget log₀ table c₀ awaited₀ at₀ stamp₀ last regs text io memory disk frame log c awaited at stamp =
+Inv-loop start regs₀ text₀ io₀ image memory₀ disk₀ frame₀ irq2 budget log₀ table c₀ awaited₀ at₀ prefix₀ last regs text io memory disk frame log c awaited at prefix =
     Under image irq2 (packed start regs₀ io₀ memory₀ disk₀ frame₀) budget log₀ (c .age - start .age) at (awaited .place) (packed c regs io memory disk frame) log
     × Turning c regs text io memory disk frame
     × (length log ≡ length log₀) × (length memory ≡ length memory₀) × (length disk ≡ length disk₀) × (length frame ≡ length frame₀)
     × (start .age ≤ c .age) × (c .age ≤ last)
     × (awaited .cycle ≡ awaitedAt (awaited .place) irq2)
-    × IsStamp stamp
+    × IsPrefix prefix
 
 abbrev μ-loop : tie.MeasureT-loop
-μ-loop start regs₀ text₀ io₀ image memory₀ disk₀ frame₀ irq2 budget log₀ table c₀ awaited₀ at₀ stamp₀ last regs text io memory disk frame log c awaited at stamp = last - c .age
+μ-loop start regs₀ text₀ io₀ image memory₀ disk₀ frame₀ irq2 budget log₀ table c₀ awaited₀ at₀ prefix₀ last regs text io memory disk frame log c awaited at prefix = last - c .age
 
 first-awaited-requires : tie.Need-first-awaited-requires Inv-loop μ-loop
 first-awaited-requires c κs = c .before .before .before .before .before .before .pre .0 .1
@@ -39,7 +39,7 @@ loop-holds c =
     let s = c .before .before .before .before .before .before .before .before in
     let p = s .pre in
     let none : s .args .start .age - s .args .start .age ≡ 0 = omega arith in
-    (rw none (sets-out _ _ _ _ _ (p .0 .1) _ (c .before .first-awaited .ensures .0)), record { sound = p .0 .0; kept = p .1 .1 .0; sized = p .1 .1 .1 .1 }, refl, refl, refl, refl, omega arith, c .last-age .ensures .1 .0, c .before .first-awaited .ensures .1, no-stamp)
+    (rw none (sets-out _ _ _ _ _ (p .0 .1) _ (c .before .first-awaited .ensures .0)), record { sound = p .0 .0; kept = p .1 .1 .0; sized = p .1 .1 .1 .1 }, refl, refl, refl, refl, omega arith, c .last-age .ensures .1 .0, c .before .first-awaited .ensures .1, no-prefix)
 
 is-awaited-requires : tie.Need-is-awaited-requires Inv-loop μ-loop
 is-awaited-requires c κs = search needs

@@ -14,8 +14,8 @@ use Rattle.simulator.proofs.CycleLaws.{cycle-is}
 use Rattle.simulator.proofs.cycle.cycle.Statement.{statement}
 use Rattle.simulator.proofs.cycle.cycle.Tie as tie
 
-keep-stamp-requires : tie.Need-keep-stamp-requires
-keep-stamp-requires c κs = search needs
+update-prefix-requires : tie.Need-update-prefix-requires
+update-prefix-requires c κs = search needs
 
 begin-cycle-requires : tie.Need-begin-cycle-requires
 begin-cycle-requires c κs = search needs
@@ -29,7 +29,7 @@ fetch-and-execute-requires c κs =
     let s = subst (SoundMachine (2 ^ 40)) (sym e) (sound-at-fetch (2 ^ 40) (a .hit) m (record { record-is = p .0 })) .record-is in
     let z = p .1 .0 .1 .1 .1 .0 in
     let aged = ap (λ (x : Machine). x .core .age) e ∙ age-at-fetch (a .hit) m .same in (
-      (s .core .pc, (p .1 .0 .0, rw aged (c .before .before .before .before .before .before .before .before .before .before .keep-stamp .ensures .1))),
+      (s .core .pc, (p .1 .0 .0, rw aged (c .before .before .before .before .before .before .before .before .before .before .update-prefix .ensures .1))),
       (
         (p .1 .0 .1 .0, (p .1 .0 .1 .1 .0, record { all = s .all; fitting = s .fitting; sized = z })),
         subst (λ (x : Machine). a .at + length (linesAtFetch (a .image .now) x) ≤ length (a .log .now)) (sym e) (p .1 .1),
@@ -67,13 +67,13 @@ returns c =
     let e = c .before .before .before .before .before .before .before .before .before .before .before .before .before .before .before .before .before .before .before .before .begin-cycle .ensures (a .regs .now) (a .memory .now) (a .disk .now) (a .frame .now) in
     let x = c .before .before .before .before .before .before .before .before .before .before .before .fetch-and-execute .ensures in
     let z = c .end-cycle .ensures in
-    (cycle-is (a .image .now) (a .hit) m _ _ _ (a .log .now) _ (a .at) _ e (x .0) (z (c .before .before .before .before .before .before .before .before .before .before .before .fetch-and-execute .last .1 .0) _ _ _) (x .1 .0 .0) (x .1 .0 .1), (x .1 .1, c .before .before .before .before .before .before .before .before .before .before .before .before .before .before .before .before .before .before .before .before .before .before .keep-stamp .ensures .0))
+    (cycle-is (a .image .now) (a .hit) m _ _ _ (a .log .now) _ (a .at) _ e (x .0) (z (c .before .before .before .before .before .before .before .before .before .before .before .fetch-and-execute .last .1 .0) _ _ _) (x .1 .0 .0) (x .1 .0 .1), (x .1 .1, c .before .before .before .before .before .before .before .before .before .before .before .before .before .before .before .before .before .before .before .before .before .before .update-prefix .ensures .0))
 
 pub cycle-spec : {M : Type 1} → statement M
 cycle-spec =
     tie.close
     (tie.spec
-    keep-stamp-requires
+    update-prefix-requires
     begin-cycle-requires
     fetch-and-execute-requires
     end-cycle-requires

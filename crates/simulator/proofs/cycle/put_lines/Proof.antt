@@ -4,7 +4,7 @@ use native.Mathlib.Omega.{arith}
 use lib.ListN.{length-append}
 use borrow.Author.Needs.{needs}
 use Rattle.text.specs.Place.{put}
-use Rattle.executor.proofs.RegisterLaws.{kept-length}
+use Rattle.executor.proofs.RegisterLaws.{text-length}
 use Rattle.trace.specs.LogLines.{lineT}
 use Rattle.trace.proofs.LengthLaws.{length-T}
 use Rattle.text.proofs.PieceLaws.{more}
@@ -18,7 +18,7 @@ put-line-t-requires c κs =
     let p = c .before .before .pre .0 in
     let room = rw length-append at (p .0) in
     let line = length-T (a .c .pc) (a .word) (a .regs .now) in
-    (omega (arith, room, line, p .1 .0 .sixteen), (kept-length (p .1 .0), p .1 .1 .0))
+    (omega (arith, room, line, p .1 .0 .sixteen), (text-length (p .1 .0), p .1 .1 .0))
 
 put-io-lines-requires : tie.Need-put-io-lines-requires
 put-io-lines-requires c κs =

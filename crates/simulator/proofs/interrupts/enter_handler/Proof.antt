@@ -11,8 +11,8 @@ returns : tie.Need-returns
 unfolding interrupted
 returns c = λ regs memory disk frame. rw (ne-eqb _ _ (c .if1 .taken), and-false) refl
 
-is-asked-requires : tie.Need-is-asked-requires
-is-asked-requires c κs = search needs
+is-requested-requires : tie.Need-is-requested-requires
+is-requested-requires c κs = search needs
 
 element-copy-out-to : tie.Need-element-copy-out-to
 element-copy-out-to c = search needs
@@ -22,13 +22,13 @@ element-write-io c = search needs
 
 returns-2 : tie.Need-returns-2
 unfolding interrupted
-returns-2 c = λ regs memory disk frame. rw (sym (c .before .before .is-asked .ensures), c .before .if2 .taken, eq-eqb _ _ (c .before .before .before .before .if1 .left)) refl
+returns-2 c = λ regs memory disk frame. rw (sym (c .before .before .is-requested .ensures), c .before .if2 .taken, eq-eqb _ _ (c .before .before .before .before .if1 .left)) refl
 
 returns-3 : tie.Need-returns-3
 unfolding interrupted
-returns-3 c = λ regs memory disk frame. rw (sym (c .before .is-asked .ensures), c .if2 .left) refl
+returns-3 c = λ regs memory disk frame. rw (sym (c .before .is-requested .ensures), c .if2 .left) refl
 
 pub enter-handler-spec : {M : Type 1} → statement M
 enter-handler-spec =
     tie.close
-    (tie.spec returns is-asked-requires element-copy-out-to element-write-io returns-2 returns-3)
+    (tie.spec returns is-requested-requires element-copy-out-to element-write-io returns-2 returns-3)

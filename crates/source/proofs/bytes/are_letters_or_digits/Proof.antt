@@ -5,12 +5,12 @@ use lib.ListN.{length}
 use borrow.Author.Needs.{needs}
 use borrow.Author.Tests.{not-true, not-false}
 use Rattle.source.specs.Bytes.{isLetterOrDigit}
-use Rattle.source.proofs.AllLaws.{Passed, none-passed, one-passed, one-failed, all-passed}
+use Rattle.source.proofs.AllLaws.{AllBefore, none-passed, one-passed, one-failed, all-passed}
 use Rattle.source.proofs.bytes.are_letters_or_digits.Statement.{statement}
 use Rattle.source.proofs.bytes.are_letters_or_digits.Tie as tie
 
 abbrev Inv-loop : tie.InvT-loop
-Inv-loop s i₀ i = Passed isLetterOrDigit s i
+Inv-loop s i₀ i = AllBefore isLetterOrDigit s i
 
 abbrev μ-loop : tie.MeasureT-loop
 μ-loop s i₀ i = length s - i

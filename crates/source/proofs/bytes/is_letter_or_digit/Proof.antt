@@ -1,5 +1,4 @@
 -- `source::bytes::is_letter_or_digit` meets its contract.
-use borrow.Author.Tests.{le-leb, lt-leb}
 use borrow.Author.Needs.{needs}
 use Rattle.source.proofs.bytes.is_letter_or_digit.Statement.{statement}
 use Rattle.source.proofs.bytes.is_letter_or_digit.Tie as tie
@@ -7,14 +6,14 @@ use Rattle.source.proofs.bytes.is_letter_or_digit.Tie as tie
 is-letter-requires : tie.Need-is-letter-requires
 is-letter-requires c κs = search needs
 
+is-between-requires : tie.Need-is-between-requires
+is-between-requires c κs = search needs
+
+either-requires : tie.Need-either-requires
+either-requires c κs = search needs
+
 returns : tie.Need-returns
-returns c = rw (← c .before .is-letter .ensures, c .if1 .taken)
-
-returns-2 : tie.Need-returns-2
-returns-2 c = rw (← c .before .before .is-letter .ensures, c .before .if1 .left, lt-leb _ _ (c .if2 .taken))
-
-returns-3 : tie.Need-returns-3
-returns-3 c = rw (← c .before .before .is-letter .ensures, c .before .if1 .left, le-leb _ _ (c .if2 .left))
+returns c = cc
 
 pub is-letter-or-digit-spec : {M : Type 1} → statement M
-is-letter-or-digit-spec = tie.close (tie.spec is-letter-requires returns returns-2 returns-3)
+is-letter-or-digit-spec = tie.close (tie.spec is-letter-requires is-between-requires either-requires returns)

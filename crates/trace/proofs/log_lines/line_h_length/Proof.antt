@@ -9,8 +9,8 @@ use Rattle.trace.proofs.log_lines.line_h_length.Tie as tie
 digit-count-requires : tie.Need-digit-count-requires
 digit-count-requires c κs = search needs
 
-way-length-requires : tie.Need-way-length-requires
-way-length-requires c κs = search needs
+access-length-requires : tie.Need-access-length-requires
+access-length-requires c κs = search needs
 
 add-result : tie.Need-add-result
 add-result c = search needs
@@ -32,7 +32,7 @@ line-h-length-spec =
     tie.close
     (tie.spec
     digit-count-requires
-    way-length-requires
+    access-length-requires
     add-result
     io-name-length-requires
     add-result-2

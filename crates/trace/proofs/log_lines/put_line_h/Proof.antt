@@ -37,10 +37,10 @@ returns c =
     let a = c .before .before .before .before .before .before .before .before .before .before .before .before .before .before .before .before .args in
     let held = c .before .before .before .before .before .before .before .before .before .before .before .before .before .before .hex-word .ensures in
     let cycle = c .before .before .before .before .before .before .before .before .before .before .before .before .put-cycle .ensures in
-    let way = c .before .before .before .before .before .before .put-bytes .ensures in
+    let access = c .before .before .before .before .before .before .put-bytes .ensures in
     let value = c .before .before .put-named-digits .ensures in
     rw (c .before .before .before .before .before .before .before .before .before .if1 .taken)
-    (line-h-laid (a .c) (a .n) (a .x) (a .at) _ _ (bytes "WRITE") (a .out .now) _ _ _ (omega (arith, way .1)) (cycle .1) (way .0) (rw held at (value .0)), rw length-H (omega (arith, cycle .0, way .1, value .1)))
+    (line-h-laid (a .c) (a .n) (a .x) (a .at) _ _ (bytes "WRITE") (a .out .now) _ _ _ (omega (arith, access .1)) (cycle .1) (access .0) (rw held at (value .0)), rw length-H (omega (arith, cycle .0, access .1, value .1)))
 
 slice-aggregate-put-bytes-2 : tie.Need-slice-aggregate-put-bytes-2
 slice-aggregate-put-bytes-2 c = search needs
@@ -65,10 +65,10 @@ returns-2 c =
     let a = c .before .before .before .before .before .before .before .before .before .before .before .before .before .before .before .before .args in
     let held = c .before .before .before .before .before .before .before .before .before .before .before .before .before .before .hex-word .ensures in
     let cycle = c .before .before .before .before .before .before .before .before .before .before .before .before .put-cycle .ensures in
-    let way = c .before .before .before .before .before .before .put-bytes2 .ensures in
+    let access = c .before .before .before .before .before .before .put-bytes2 .ensures in
     let value = c .before .before .put-named-digits2 .ensures in
     rw (c .before .before .before .before .before .before .before .before .before .if1 .left)
-    (line-h-laid (a .c) (a .n) (a .x) (a .at) _ _ (bytes "READ") (a .out .now) _ _ _ (omega (arith, way .1)) (cycle .1) (way .0) (rw held at (value .0)), rw length-H (omega (arith, cycle .0, way .1, value .1)))
+    (line-h-laid (a .c) (a .n) (a .x) (a .at) _ _ (bytes "READ") (a .out .now) _ _ _ (omega (arith, access .1)) (cycle .1) (access .0) (rw held at (value .0)), rw length-H (omega (arith, cycle .0, access .1, value .1)))
 
 pub put-line-h-spec : {M : Type 1} → statement M
 put-line-h-spec =

@@ -45,7 +45,7 @@ returns c =
     let instruction = c .before .before .before .before .before .before .before .before .before .before .before .before .before .put-instruction .ensures in
     let low = rw (c .before .before .before .before .before .before .before .before .before .before .immediate-digits .ensures, c .before .before .before .before .before .before .before .before .before .immediate-digits2 .ensures) at (c .before .before .before .before .before .before .before .put-low-registers .ensures) in
     let high = c .before .before .put-bytes .ensures in
-    (line-t-laid (a .pc) (a .word) _ _ (a .at) (a .kept .now) (a .out .now) _ _ _ instruction low (high .0), omega arith)
+    (line-t-laid (a .pc) (a .word) _ _ (a .at) (a .text .now) (a .out .now) _ _ _ instruction low (high .0), omega arith)
 
 pub put-line-t-spec : {M : Type 1} → statement M
 put-line-t-spec =

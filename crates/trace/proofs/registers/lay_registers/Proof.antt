@@ -10,10 +10,10 @@ use Rattle.trace.proofs.registers.lay_registers.Statement.{statement}
 use Rattle.trace.proofs.registers.lay_registers.Tie as tie
 
 abbrev Inv-loop : tie.InvT-loop
-Inv-loop kept₀ regs pairs at₀ n₀ kept at n = (put kept at (registersText (drop n regs)) ≡ put kept₀ 0 (registersText (drop 3 regs))) × ((length kept ≡ 118) × ((n * 9 ≡ at + 27) × (n ≤ 16)))
+Inv-loop text₀ regs pairs at₀ n₀ text at n = (put text at (registersText (drop n regs)) ≡ put text₀ 0 (registersText (drop 3 regs))) × ((length text ≡ 118) × ((n * 9 ≡ at + 27) × (n ≤ 16)))
 
 abbrev μ-loop : tie.MeasureT-loop
-μ-loop kept₀ regs pairs at₀ n₀ kept at n = 16 - n
+μ-loop text₀ regs pairs at₀ n₀ text at n = 16 - n
 
 loop-holds : tie.Need-loop-holds Inv-loop μ-loop
 loop-holds c = (refl, (c .pre .0, (omega arith, omega arith)))
@@ -37,19 +37,19 @@ loop-again : tie.Need-loop-again Inv-loop μ-loop
 loop-again c =
     let l = c .before .before .before .before .loop in
     let w = c .put-word in (
-      lay-turn (c .before .before .before .before .before .args .regs .now) (l .n) (l .kept) _ (l .at) _ (omega arith) (w .ensures .0) (w .ensures .1) ∙ l .inv .0,
+      lay-turn (c .before .before .before .before .before .args .regs .now) (l .n) (l .text) _ (l .at) _ (omega arith) (w .ensures .0) (w .ensures .1) ∙ l .inv .0,
       (w .kept .0 ∙ l .inv .1 .0, (omega arith, omega arith)),
     )
 
-element-write-kept : tie.Need-element-write-kept Inv-loop μ-loop
-element-write-kept c = omega arith
+element-write-text : tie.Need-element-write-text Inv-loop μ-loop
+element-write-text c = omega arith
 
 returns : tie.Need-returns Inv-loop μ-loop
 returns c =
     let l = c .before .loop in
     let start = c .before .before in
     let regs = start .args .regs .now in
-    lay-end regs (l .n) (l .kept) (l .at) 117 (omega arith) (omega arith) ∙ l .inv .0 ∙ lay-whole regs (start .args .kept .now) (start .pre .1 .0) (start .pre .0)
+    lay-end regs (l .n) (l .text) (l .at) 117 (omega arith) (omega arith) ∙ l .inv .0 ∙ lay-whole regs (start .args .text .now) (start .pre .1 .0) (start .pre .0)
 
 pub lay-registers-spec : {M : Type 1} → statement M
 lay-registers-spec =
@@ -64,5 +64,5 @@ lay-registers-spec =
     add-n
     loop-less
     loop-again
-    element-write-kept
+    element-write-text
     returns)

@@ -1,0 +1,118 @@
+// A record saved and read again and again: what bench/ measures.
+use machine::Core;
+use machine::Record;
+use saved::LoadAnswer;
+use saved::Saved;
+use saved::load;
+use saved::save;
+ghost use mathlib.Core.Path.{_≡_};
+ghost use Prim.Native.Nat.{_-_};
+ghost use Rattle.saved.specs.Answers.{savedOutcome, loadedOutcome};
+ghost use Rattle.saved.specs.Calls.{freshRecord, saveBytes};
+ghost use Rattle.bench_saved.specs.Turns.{one, given, saves, savesDone, loads, loadsDone};
+
+// Saves a record at its age and at each after it below `to`, into the same bytes; returns how many saves were accepted.
+#[no_mangle]
+pub extern "C" fn simp_bench_saves(
+    status: u32,
+    handler: u32,
+    pc: u32,
+    age: u64,
+    left: u32,
+    regs: &[u32; 13],
+    io: &[u32; 23],
+    to: u64,
+    bytes: &mut [u8],
+) -> u64
+    ensures { λ n. ⌜ n ≡ savesDone (given status handler pc age left (now (regs .entry)) (now (io .entry))) (to - age) (now (bytes .entry)) ⌝ }
+    ensures { λ _. ⌜ now (bytes .exit) ≡ saves (given status handler pc age left (now (regs .entry)) (now (io .entry))) (to - age) (now (bytes .entry)) ⌝ }
+{
+    let core = Core {
+        status: status,
+        handler: handler,
+        pc: pc,
+        age: age,
+        left: left,
+    };
+    let r = Record {
+        core: core,
+        regs: *regs,
+        io: *io,
+    };
+    make_saves(r, to, bytes)
+}
+
+// The loop.
+fn make_saves(r: Record, to: u64, bytes: &mut [u8]) -> u64
+    ensures { λ n. ⌜ n ≡ savesDone r (to - r .core .age) (now (bytes .entry)) ⌝ }
+    ensures { λ _. ⌜ now (bytes .exit) ≡ saves r (to - r .core .age) (now (bytes .entry)) ⌝ }
+{
+    let mut s = r;
+    let mut n = 0;
+    while s.core.age < to {
+        n += is_saved(save(s, bytes));
+        let age = s.core.age + 1;
+        s.core.age = age;
+    }
+    n
+}
+
+// Reads the record of bytes n times and saves the one that was read last to `out`; returns how many readings were accepted.
+#[no_mangle]
+pub extern "C" fn simp_bench_loads(bytes: &[u8], n: u64, out: &mut [u8]) -> u64
+    ensures { λ k. ⌜ (k ≡ loadsDone n (now (bytes .entry))) × (now (out .exit) ≡ saveBytes (loads n (now (bytes .entry))) (now (out .entry))) ⌝ }
+{
+    let mut r = fresh();
+    let mut k = 0;
+    let mut i = 0;
+    while i < n {
+        let l = load(bytes);
+        let answer = l.answer;
+        r = l.state;
+        k += is_loaded(answer);
+        i += 1;
+    }
+    save(r, out);
+    k
+}
+
+// The fresh record.
+fn fresh() -> Record
+    ensures { λ r. ⌜ r ≡ freshRecord ⌝ }
+{
+    let core = Core {
+        status: 0,
+        handler: 0,
+        pc: 0,
+        age: 0,
+        left: 0,
+    };
+    Record {
+        core: core,
+        regs: [0; 13],
+        io: [0; 23],
+    }
+}
+
+// 1 for an accepted save.
+fn is_saved(a: Saved) -> u64
+    ensures { λ r. ⌜ r ≡ one (savedOutcome a) ⌝ }
+{
+    match a {
+        Saved::Done => 1,
+        Saved::WrongLength => 0,
+        Saved::Unsound => 0,
+    }
+}
+
+// 1 for an accepted reading.
+fn is_loaded(a: LoadAnswer) -> u64
+    ensures { λ r. ⌜ r ≡ one (loadedOutcome a) ⌝ }
+{
+    match a {
+        LoadAnswer::Loaded => 1,
+        LoadAnswer::WrongLength => 0,
+        LoadAnswer::OtherEdition => 0,
+        LoadAnswer::Unsound => 0,
+    }
+}

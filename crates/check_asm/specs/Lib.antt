@@ -1,0 +1,2 @@
+-- Words of a memory.
+pub mod Rows

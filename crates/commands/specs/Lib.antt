@@ -1,0 +1,2 @@
+-- What the command `asm` says.
+pub mod Said

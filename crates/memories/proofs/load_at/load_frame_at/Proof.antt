@@ -1,0 +1,54 @@
+-- `memories::load_at::load_frame_at` meets its contract.
+use borrow.Author.Needs.{needs}
+use Rattle.memories.proofs.LoadLaws.{loaded}
+use Rattle.memories.proofs.load_at.load_frame_at.Statement.{statement}
+use Rattle.memories.proofs.load_at.load_frame_at.Tie as tie
+
+buffer-requires : tie.Need-buffer-requires
+buffer-requires c κs = search needs
+
+slice-aggregate-arg : tie.Need-slice-aggregate-arg
+slice-aggregate-arg c = search needs
+
+arg-requires : tie.Need-arg-requires
+arg-requires c κs = search needs
+
+array-share-prefix-name : tie.Need-array-share-prefix-name
+array-share-prefix-name c = search needs
+
+slice-aggregate-load-frame : tie.Need-slice-aggregate-load-frame
+slice-aggregate-load-frame c = search needs
+
+load-frame-requires : tie.Need-load-frame-requires
+load-frame-requires c κs = search needs
+
+array-share-prefix-name-2 : tie.Need-array-share-prefix-name-2
+array-share-prefix-name-2 c = search needs
+
+slice-aggregate-is-loaded : tie.Need-slice-aggregate-is-loaded
+slice-aggregate-is-loaded c = search needs
+
+is-loaded-requires : tie.Need-is-loaded-requires
+is-loaded-requires c κs = search needs
+
+same-length : tie.Need-same-length
+same-length c = search needs
+
+returns : tie.Need-returns
+returns c = loaded _ _ _ _ (c .before .before .before .before .load-frame .result) (c .before .before .before .before .load-frame .ensures) (c .is-loaded .ensures)
+
+pub load-frame-at-spec : {M : Type 1} → statement M
+load-frame-at-spec =
+    tie.close
+    (tie.spec
+    buffer-requires
+    slice-aggregate-arg
+    arg-requires
+    array-share-prefix-name
+    slice-aggregate-load-frame
+    load-frame-requires
+    array-share-prefix-name-2
+    slice-aggregate-is-loaded
+    is-loaded-requires
+    same-length
+    returns)

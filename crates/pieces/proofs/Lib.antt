@@ -1,6 +1,0 @@
--- Laws that belong to no one function.
-pub mod RunLaws
-pub mod PieceLaws
-pub mod SplitLaws
-pub mod CycleLaws
-pub mod FileLaws

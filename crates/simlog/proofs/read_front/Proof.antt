@@ -1,0 +1,29 @@
+-- `simlog::read_front` meets its contract.
+use mathlib.Core.Path.{_≡_, sym}
+use native.Mathlib.Omega.{arith}
+use lib.ListN.{length}
+use lib.Seq.{length-take-le}
+use Rattle.simlog.proofs.Laws.{image-of}
+use borrow.Author.Needs.{needs}
+use Rattle.simlog.proofs.read_front.Statement.{statement}
+use Rattle.simlog.proofs.read_front.Tie as tie
+
+slice-aggregate-read-image : tie.Need-slice-aggregate-read-image
+slice-aggregate-read-image c = sym (length-take-le _ _ (c .before .before .pre .1))
+
+read-image-requires : tie.Need-read-image-requires
+read-image-requires c κs = search needs
+
+outcome-requires : tie.Need-outcome-requires
+outcome-requires c κs = search needs
+
+returns : tie.Need-returns
+returns c =
+    let a = c .before .before .before .before .before .args in
+    let long = c .before .before .before .before .before .pre .0 in
+    let size : length (a .image .now) ≡ 4096 = omega arith in
+    λ whole front. image-of whole (length (a .buffer .now)) size long (rw front at (c .before .read-image .ensures)) (c .outcome .ensures)
+
+pub read-front-spec : {M : Type 1} → statement M
+read-front-spec =
+    tie.close (tie.spec slice-aggregate-read-image read-image-requires outcome-requires returns)

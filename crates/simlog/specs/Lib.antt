@@ -1,0 +1,2 @@
+-- What simlog reads and runs.
+pub mod Simlog

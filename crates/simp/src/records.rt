@@ -1,0 +1,36 @@
+// Records saved and read.
+use crate::WRONG_LENGTH;
+use crate::numbers::RECORD_NUMBERS;
+use crate::numbers::lay_numbers;
+use crate::numbers::record_of;
+use saved::load;
+use saved::save;
+ghost use Rattle.simp.specs.Records.{Saves, Loads};
+
+// Saves the record of 38 numbers in 91 bytes.
+#[no_mangle]
+pub extern "C" fn simp_save(numbers: &[u64], bytes: &mut [u8]) -> u32
+    ensures { λ r. ⌜ Saves (now (numbers .entry)) (now (bytes .entry)) r (now (bytes .exit)) ⌝ }
+{
+    if numbers.len() != RECORD_NUMBERS {
+        return WRONG_LENGTH;
+    }
+    let outcome = save(record_of(numbers), bytes).outcome();
+    outcome.number
+}
+
+// Reads 91 bytes into the 38 numbers of a record.
+#[no_mangle]
+pub extern "C" fn simp_load(bytes: &[u8], numbers: &mut [u64]) -> u32
+    ensures { λ r. ⌜ Loads (now (bytes .entry)) (now (numbers .entry)) r (now (numbers .exit)) ⌝ }
+{
+    if numbers.len() != RECORD_NUMBERS {
+        return WRONG_LENGTH;
+    }
+    let l = load(bytes);
+    let answer = l.answer;
+    let state = l.state;
+    lay_numbers(state, numbers);
+    let outcome = answer.outcome();
+    outcome.number
+}

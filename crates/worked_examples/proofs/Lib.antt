@@ -1,0 +1,3 @@
+-- Laws of a run that is stopped and resumed.
+pub mod ReturnLaws
+pub mod ResumeLaws

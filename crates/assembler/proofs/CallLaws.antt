@@ -1,12 +1,12 @@
 -- What the assembler's call answers and leaves. Assumes nothing.
-use Prim.Native.Nat.{ℕ, _≤_}
+use Prim.Native.Nat.{ℕ, _≤_, _<_}
 use mathlib.Core.Path.{_≡_, refl, sym, _∙_, ap}
 use mathlib.Core.Bool.{Bool, true, false, _&&_}
 use mathlib.Core.List.{List}
 use native.Mathlib.Omega.{arith}
 use lib.Dec.{leb}
 use lib.ListN.{length, replicate, length-replicate}
-use borrow.Author.Tests.{leb-true, le-leb, eqb-true, ne-eqb}
+use borrow.Author.Tests.{leb-true, le-leb, lt-leb, eqb-true, ne-eqb}
 use Rattle.text.specs.declared.Outcome.{Outcome}
 use Rattle.text.specs.Questions.{refused}
 use Rattle.text.proofs.Truth.{and-left, and-right}
@@ -62,6 +62,27 @@ module _ (source image memory : List ℕ) (r : Bool) (is : r ≡ (leb (length so
         eqb-true (length image) imageWords (and-right (leb (length source) mostSource) (isImageLength (length image)) both),
         eqb-true (length memory) dataWords (and-right (leb (length source) mostSource && isImageLength (length image)) (isDataLength (length memory)) (sym is ∙ e)),
       )
+
+-- ---- a source that is too long
+
+-- It is refused, whatever its bytes, ..
+pub long-refused : (source : List ℕ) (image data-words : ℕ) → mostSource < length source → assembleOutcome source image data-words ≡ refused 1 0
+unfolding assembleOutcome
+long-refused source image data-words long = rw (lt-leb (length source) mostSource long)
+
+-- .. so two such sources are assembled alike.
+pub long-alike : (a b image memory : List ℕ) {r : Assembled} {imageAfter memoryAfter : List ℕ} → mostSource < length a → mostSource < length b
+    → Assembling a image memory r imageAfter memoryAfter → Assembling b image memory r imageAfter memoryAfter
+long-alike a b image memory long-a long-b p =
+    let no = p .answer ∙ long-refused a (length image) (length memory) long-a in
+    record {
+      answer = no ∙ sym (long-refused b (length image) (length memory) long-b);
+      words = rw no at (p .words) ∙ rw no;
+      data-words = rw no at (p .data-words) ∙ rw no;
+      high-bits = p .high-bits;
+    }
+
+-- ---- a source of at most as many bytes
 
 -- With right lengths, both passes over a text tell what is answered.
 module _ (source image memory : List ℕ) (s : length source ≤ mostSource) (i : length image ≡ imageWords) (m : length memory ≡ dataWords)

@@ -30,13 +30,19 @@ pub record EndsIdle (left room : ℕ) (calls : List (Call lab)) (dones : List (D
   pub room-is : length log ≡ room
   pub none : last .cycles ≡ 0
 
+-- The log that calls leave which were lent `log`, each as the last one left it.
+abbrev pub logLeft : List ℕ → List (Done lab) → List ℕ
+logLeft log [] = log
+logLeft log (d ∷ ds) = logLeft (d .log) ds
+
 -- There is a list of calls from `start` that met their contracts, of which demand 3 holds where `start` is fresh, whose runs made so many cycles in total, and after which
--- stands what `Stands` says. The budget is spent then, or a run with the rest of it and so much room for its log made no cycle.
-pub record ByCalls (irq2 : List ℕ) (budget room : ℕ) (start : Standing) (cycles : ℕ) (Stands : Standing → Type 0) : Type 0 where
+-- the log is `log'` and stands what `Stands` says. The budget is spent then, or a run with the rest of it and the room of the log made no cycle.
+pub record ByCalls (irq2 : List ℕ) (budget : ℕ) (log : List ℕ) (start : Standing) (cycles : ℕ) (log' : List ℕ) (Stands : Standing → Type 0) : Type 0 where
   pub calls : List (Call lab)
   pub dones : List (Done lab)
   pub trace : Trace lab irq2 start calls dones
   pub demand : Fresh start → Demand3 lab irq2 start calls dones
   pub made : total lab dones ≡ cycles
-  pub ended : (cycles ≡ budget) ⊎ EndsIdle (budget - cycles) room calls dones
+  pub ended : (cycles ≡ budget) ⊎ EndsIdle (budget - cycles) (length log) calls dones
+  pub written : log' ≡ logLeft log dones
   pub stands : Stands (final lab start calls dones)

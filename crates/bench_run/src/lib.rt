@@ -1,7 +1,6 @@
 // Runs one after the other from the fresh record: what bench/ measures, and what demand 3 says of real calls.
 use runner::run;
 use saved::fresh_record;
-ghost use lib.ListN.{length};
 ghost use Rattle.saved.specs.Calls.{freshRecord};
 ghost use Rattle.runner.specs.Lab.{standingOf};
 ghost use Rattle.bench_run.specs.ByCalls.{ByCalls, ByOneRun, standsWith};
@@ -43,7 +42,7 @@ pub extern "C" fn simp_bench_runs(
     budget: u64,
     log: &mut [u8],
 ) -> u64
-    ensures { λ r. ⌜ ByCalls (now (irq2 .entry)) budget (length (now (log .entry))) (standingOf (now (image .entry)) freshRecord (now (memory .entry)) (now (disk .entry)) (now (frame .entry))) r (standsWith (now (image .entry)) (now (memory .exit)) (now (disk .exit)) (now (frame .exit))) ⌝ }
+    ensures { λ r. ⌜ ByCalls (now (irq2 .entry)) budget (now (log .entry)) (standingOf (now (image .entry)) freshRecord (now (memory .entry)) (now (disk .entry)) (now (frame .entry))) r (now (log .exit)) (standsWith (now (image .entry)) (now (memory .exit)) (now (disk .exit)) (now (frame .exit))) ⌝ }
 {
     let mut state = fresh_record();
     let mut left = budget;

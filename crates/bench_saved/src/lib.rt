@@ -3,12 +3,13 @@ use machine::Core;
 use machine::Record;
 use saved::LoadAnswer;
 use saved::Saved;
+use saved::fresh_record;
 use saved::load;
 use saved::save;
 ghost use mathlib.Core.Path.{_≡_};
 ghost use Prim.Native.Nat.{_-_};
 ghost use Rattle.saved.specs.Answers.{savedOutcome, loadedOutcome};
-ghost use Rattle.saved.specs.Calls.{freshRecord, saveBytes};
+ghost use Rattle.saved.specs.Calls.{saveBytes};
 ghost use Rattle.bench_saved.specs.Turns.{one, given, saves, savesDone, loads, loadsDone};
 
 // Saves a record at its age and at each after it below `to`, into the same bytes; returns how many saves were accepted.
@@ -62,7 +63,7 @@ fn make_saves(r: Record, to: u64, bytes: &mut [u8]) -> u64
 pub extern "C" fn simp_bench_loads(bytes: &[u8], n: u64, out: &mut [u8]) -> u64
     ensures { λ k. ⌜ (k ≡ loadsDone n (now (bytes .entry))) × (now (out .exit) ≡ saveBytes (loads n (now (bytes .entry))) (now (out .entry))) ⌝ }
 {
-    let mut r = fresh();
+    let mut r = fresh_record();
     let mut k = 0;
     let mut i = 0;
     while i < n {
@@ -74,24 +75,6 @@ pub extern "C" fn simp_bench_loads(bytes: &[u8], n: u64, out: &mut [u8]) -> u64
     }
     save(r, out);
     k
-}
-
-// The fresh record.
-fn fresh() -> Record
-    ensures { λ r. ⌜ r ≡ freshRecord ⌝ }
-{
-    let core = Core {
-        status: 0,
-        handler: 0,
-        pc: 0,
-        age: 0,
-        left: 0,
-    };
-    Record {
-        core: core,
-        regs: [0; 13],
-        io: [0; 23],
-    }
 }
 
 // 1 for an accepted save.

@@ -2,3 +2,4 @@
 pub mod AllLaws
 pub mod BuiltLaws
 pub mod RowLaws
+pub mod TrialLaws

@@ -1,2 +1,3 @@
--- Words of a memory.
+-- Words of a memory, and what is asked of memories.
 pub mod Rows
+pub mod Trials

@@ -1,10 +1,10 @@
 // Large texts: a front, a line that is repeated, and an end.
 use crate::trial::try_text;
-use console::append;
+use console::put_if_room;
 ghost use Prim.Native.Nat.{_≤_};
 ghost use mathlib.Core.List.{[], _∷_, _++_};
 ghost use lib.ListN.{length, replicate};
-ghost use Rattle.console.specs.Line.{Laid};
+ghost use Rattle.console.specs.Line.{PiecesPut};
 
 const ROOM: usize = 262_145;
 
@@ -72,24 +72,24 @@ fn try_repeated(name: &[u8], front: &[u8], line: &[u8], times: usize, end: &[u8]
     try_text(name, &text[..n]);
 }
 
-// Lays the text at the front and returns its length.
+// Puts the text at the front and returns its length.
 fn build(text: &mut [u8], front: &[u8], line: &[u8], times: usize, end: &[u8]) -> usize
-    ensures { λ r. ⌜ Laid (now (front .entry) ∷ replicate times (now (line .entry)) ++ (now (end .entry) ∷ [])) (now (text .entry)) 0 (now (text .exit)) r ⌝ }
+    ensures { λ r. ⌜ PiecesPut (now (front .entry) ∷ replicate times (now (line .entry)) ++ (now (end .entry) ∷ [])) (now (text .entry)) 0 (now (text .exit)) r ⌝ }
 {
-    let lines_at = append(text, 0, front);
+    let lines_at = put_if_room(text, 0, front);
     let end_at = repeat(text, lines_at, line, times);
-    append(text, end_at, end)
+    put_if_room(text, end_at, end)
 }
 
-// Lays a line at a place, so many times, and returns the place after them.
+// Puts a line at a place, so many times, and returns the place after them.
 fn repeat(text: &mut [u8], at: usize, line: &[u8], times: usize) -> usize
     requires { ⌜ at ≤ length (now text) ⌝ }
-    ensures { λ r. ⌜ Laid (replicate times (now (line .entry))) (now (text .entry)) at (now (text .exit)) r ⌝ }
+    ensures { λ r. ⌜ PiecesPut (replicate times (now (line .entry))) (now (text .entry)) at (now (text .exit)) r ⌝ }
 {
     let mut next = at;
     let mut left = times;
     while 0 < left {
-        next = append(text, next, line);
+        next = put_if_room(text, next, line);
         left -= 1;
     }
     next

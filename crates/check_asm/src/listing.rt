@@ -3,15 +3,15 @@ use crate::memories::are_all;
 use crate::memories::are_same;
 use crate::print::print_returned;
 use assembler::assemble;
-use lister::Listed;
 use lister::list;
 use lister::used_words;
-ghost use Rattle.io.specs.Counts.{Counts};
+ghost use mathlib.Core.Path.{_≡_};
+ghost use Rattle.check_asm.specs.Trials.{isImageOf, ListedInto};
 
 // Room for a listing of 4,096 words: a line of one has at most 46 bytes.
 const ROOM: usize = 188_416;
 
-// Prints whether an image comes back from the listing of its words up to the last that is not zero.
+// Prints whether an image comes back from the listing of its words up to the last that is not zero in its low 48 bits.
 pub fn print_listed(image: &[u64]) {
     let mut text = [0u8; ROOM];
     let n = used_words(image);
@@ -21,16 +21,15 @@ pub fn print_listed(image: &[u64]) {
 
 // Lists words and returns how many bytes of text there are; 0 where they are refused.
 fn list_words(words: &[u64], text: &mut [u8]) -> usize
-    ensures { λ r. ⌜ Counts r (now (text .exit)) ⌝ }
+    ensures { λ r. ⌜ ListedInto (now (words .entry)) (now (text .entry)) r (now (text .exit)) ⌝ }
 {
-    let Listed::Bytes(count) = list(words, text) else {
-        return 0;
-    };
-    count
+    list(words, text).outcome().count
 }
 
 // Whether a text is assembled into this image and a data memory of zeros.
-fn is_image_of(text: &[u8], image: &[u64]) -> bool {
+fn is_image_of(text: &[u8], image: &[u64]) -> bool
+    ensures { λ r. ⌜ r ≡ isImageOf (now (text .entry)) (now (image .entry)) ⌝ }
+{
     let mut again = [1u64; 4096];
     let mut memory = [1u32; 4096];
     let answer = assemble(text, &mut again, &mut memory).outcome();

@@ -72,7 +72,7 @@ pub fn print_returned(is_same: bool) {
     }
 }
 
-// Prints the words of an image up to the last that is not zero.
+// Prints the words of an image up to the last that is not zero in its low 48 bits.
 pub fn print_image(image: &[u64]) {
     let n = used_words(image);
     print_words(&image[..n]);

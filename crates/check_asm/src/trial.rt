@@ -7,6 +7,8 @@ use crate::print::print_data;
 use crate::print::print_image;
 use crate::print::print_refused;
 use assembler::assemble;
+ghost use mathlib.Core.Path.{_≡_};
+ghost use Rattle.check_asm.specs.Trials.{isKept};
 
 // What each word of the image and of the data memory holds before.
 const IMAGE_PATTERN: u64 = 0xA5A5_A5A5_A5A5_A5A5;
@@ -49,7 +51,9 @@ pub fn try_lengths() {
 }
 
 // Whether every word still holds the pattern.
-fn is_kept(image: &[u64], memory: &[u32]) -> bool {
+fn is_kept(image: &[u64], memory: &[u32]) -> bool
+    ensures { λ r. ⌜ r ≡ isKept (now (image .entry)) (now (memory .entry)) ⌝ }
+{
     if are_all_long(image, IMAGE_PATTERN) {
         return are_all(memory, DATA_PATTERN);
     }

@@ -1,6 +1,6 @@
 // The steps in the arguments.
 use console::LINE;
-use console::append;
+use console::put_if_room;
 use console::say;
 ghost use mathlib.Core.Path.{_≡_};
 ghost use Prim.Native.Nat.{_+_, _^_, _≤_, _<_};
@@ -39,23 +39,23 @@ pub fn say_step(i: usize, words: usize)
     requires { ⌜ (i + words < 2 ^ 64) × (words ≤ 16) ⌝ }
 {
     let mut line = [0u8; LINE];
-    let mut at = append(&mut line, 0, b">");
+    let mut at = put_if_room(&mut line, 0, b">");
     let mut k = 0;
     while k < words {
         at = put_word(&mut line, at, i + k);
         k += 1;
     }
-    at = append(&mut line, at, b"\n");
+    at = put_if_room(&mut line, at, b"\n");
     say(&line[..at]);
 }
 
-// Lays a blank and an argument at a place of a line and returns the place after them.
+// Puts a blank and an argument at a place of a line and returns the place after them.
 fn put_word(line: &mut [u8], at: usize, i: usize) -> usize
     requires { ⌜ at ≤ length (now line) ⌝ }
     ensures { λ r. ⌜ Counts r (now (line .exit)) ⌝ }
 {
     let mut word = io::buffer();
     let n = os::arg(i, &mut word);
-    let word_at = append(line, at, b" ");
-    append(line, word_at, &word[..n])
+    let word_at = put_if_room(line, at, b" ");
+    put_if_room(line, word_at, &word[..n])
 }

@@ -5,7 +5,7 @@ ghost use Prim.Native.Nat.{_≤_};
 ghost use lib.ListN.{length};
 ghost use Rattle.io.specs.Counts.{Counts};
 
-// Lays the path of a file in a folder at the front and returns its length. A file that is missing counts as empty: the path is that of an empty one.
+// Puts the path of a file in a folder at the front and returns its length. A file that is missing counts as empty: the path is that of an empty one.
 pub fn file_path(folder: &[u8], file: &[u8], path: &mut [u8]) -> usize
     requires { ⌜ 9 ≤ length (now path) ⌝ }
     ensures { λ r. ⌜ Counts r (now (path .exit)) ⌝ }
@@ -17,7 +17,7 @@ pub fn file_path(folder: &[u8], file: &[u8], path: &mut [u8]) -> usize
     n
 }
 
-// Lays the path of a file in a folder at the front and returns its length; 0 for a path that is too long.
+// Puts the path of a file in a folder at the front and returns its length; 0 for a path that is too long.
 fn put_path(folder: &[u8], file: &[u8], path: &mut [u8]) -> usize
     ensures { λ r. ⌜ Counts r (now (path .exit)) ⌝ }
 {

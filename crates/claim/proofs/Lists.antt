@@ -163,6 +163,7 @@ module _ (L : Lab) (laws : Laws L) (irqs : L .Irqs) where
                 slice = slice;
                 left = refl;
                 written = λ h. laws .written k (L .part k w) space (eqb-true _ _ e);
+                read = λ h. refl;
                 placed = λ h. refl;
                 refused = λ h. absurd (h refl);
                 counts = (refl, refl, refl);
@@ -181,6 +182,7 @@ module _ (L : Lab) (laws : Laws L) (irqs : L .Irqs) where
                 slice = into;
                 left = refl;
                 written = λ h. absurd (eqb-false _ _ e h);
+                read = λ h. absurd (eqb-false _ _ e h);
                 placed = λ h. absurd (eqb-false _ _ e h);
                 refused = λ h. (trip-unchanged w _ _, kept, refl);
                 counts = (refl, refl, refl);

@@ -30,7 +30,7 @@ pub record Lab : Type 1 where
   -- The questions that document 01 asks of a run, in its order.
   pub asks : Irqs → World Image (machine .State) → List Question
   -- The things that a return trip carries: "the record .. the image, a memory or a part of the disk". `Lent` is what the writer of such a thing is
-  -- lent and `part` where it stands; `Slice` is what its reader fills, and `place` what stands when that takes its place.
+  -- lent and `part` what stands of it; `Slice` is what its reader fills, and `place` what stands when that takes its place.
   pub Kind : Type 0
   pub Lent : Kind → Type 0
   pub Slice : Kind → Type 0

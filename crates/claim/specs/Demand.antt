@@ -77,8 +77,9 @@ module _ (L : Lab) (irqs : L .Irqs) (start : Stands L) where
     pub sent : Bytes
     pub slice : L .Slice k
     pub left : d .trip-left ≡ halves k sent slice
-    -- Accepted, the text is in the space, and the slice "then takes its place".
+    -- Accepted, the text is in the space, the slice is what is read of it, and "then takes its place".
     pub written : Accepted d → sent ≡ holding (L .textOf k (L .part k w)) space
+    pub read : Accepted d → slice ≡ L .readInto k (L .textOf k (L .part k w)) into
     pub placed : Accepted d → d .lent ≡ L .place k slice w
     pub refused : (Accepted d → ⊥) → Unchanged w [] d × (sent ≡ space) × (slice ≡ into)
     pub counts : (d .cycles ≡ 0) × (d .bytes ≡ 0) × (d .reason ≡ 0)

@@ -1,3 +1,4 @@
 -- Laws that belong to no one function.
+pub mod AssembleLaws
 pub mod CountLaws
 pub mod ListLaws

@@ -1,2 +1,3 @@
--- What the command `asm` says.
+-- What the command `asm` promises, and what it says.
+pub mod Program
 pub mod Said

@@ -5,7 +5,7 @@ use mathlib.Core.List.{List, [], _∷_}
 use lib.Dec.{eqb}
 use Rattle.text.specs.Bytes.{bytes}
 use Rattle.text.specs.Numerals.{decimal}
-use Rattle.console.specs.Line.{Laid}
+use Rattle.console.specs.Line.{PiecesPut}
 
 -- How many instructions it has.
 abbrev pub countPieces : ℕ → List (List ℕ)
@@ -18,13 +18,13 @@ writtenPieces written first second =
     (cond (eqb written 1) (first ∷ bytes " is written, " ∷ second ∷ bytes " is not\n" ∷ [])
     (first ∷ bytes " and " ∷ second ∷ bytes " are written\n" ∷ []))
 
--- A name that an argument gives, which can't be named here, is laid on a line.
-pub record NameLaid (before : List ℕ) (at : ℕ) (after : List ℕ) (r : ℕ) : Type 0 where
+-- A name that an argument gives, which can't be named here, is put on a line.
+pub record NamePut (before : List ℕ) (at : ℕ) (after : List ℕ) (r : ℕ) : Type 0 where
   pub name : List ℕ
-  pub laid : Laid (name ∷ []) before at after r
+  pub is-put : PiecesPut (name ∷ []) before at after r
 
--- Which files are written is laid on a line, their names being two such.
-pub record WrittenLaid (written : ℕ) (before : List ℕ) (at : ℕ) (after : List ℕ) (r : ℕ) : Type 0 where
+-- Which files are written is put on a line, their names being two such.
+pub record WrittenPut (written : ℕ) (before : List ℕ) (at : ℕ) (after : List ℕ) (r : ℕ) : Type 0 where
   pub first : List ℕ
   pub second : List ℕ
-  pub laid : Laid (writtenPieces written first second) before at after r
+  pub is-put : PiecesPut (writtenPieces written first second) before at after r

@@ -1,23 +1,21 @@
--- The line of a refusal, as the code lays its pieces, and how long they are. Assumes nothing.
+-- The line of a refusal, as the code puts its pieces, and how long they are. Assumes nothing.
 use Prim.Native.Nat.{ℕ, _+_, _^_, _≤_, _<_}
-use mathlib.Core.Path.{_≡_, refl, sym, ap}
+use mathlib.Core.Path.{_≡_, refl, sym}
 use mathlib.Core.Bool.{true, false}
 use mathlib.Core.List.{List, [], _++_}
-use native.Mathlib.Nat.{add-zero}
 use native.Mathlib.Omega.{arith}
-use lib.ListN.{length, getD, take, List·getD-eq-default, set, length-append}
-use lib.Dec.{eqb, leb}
-use borrow.Author.Tests.{eqb-true, leb-true}
+use lib.ListN.{length, getD, List·getD-eq-default, set, length-append}
+use lib.Dec.{eqb}
+use borrow.Author.Tests.{eqb-true}
 use Rattle.text.specs.Bytes.{bytes}
 use Rattle.text.specs.Lines.{LF}
 use Rattle.text.specs.Numerals.{digitCount, decimal}
 use Rattle.text.specs.Place.{put}
-use Rattle.text.specs.Same.{same}
 use Rattle.console.specs.Refusals.{sentence, sentences, hasLine, counted, placeText, refusalLine}
 use Rattle.text.proofs.DecimalLaws.{length-decimal, count-le}
 use Rattle.text.proofs.PieceLaws.{more}
-use Rattle.text.proofs.PutLaws.{put-nil, put-one}
-use Rattle.text.proofs.SameLaws.{table-rule}
+use Rattle.text.proofs.PutLaws.{put-one}
+use Rattle.text.proofs.TableLaws.{most-rule}
 use Rattle.text.proofs.Truth.{allBelow, below}
 
 -- ---- a count
@@ -29,40 +27,29 @@ few v h = count-le 10 (omega arith) 19 v (omega arith)
 pub length-counted : (kind : List ℕ) (n : ℕ) → length (counted kind n) ≡ length kind + digitCount 10 n + 2
 length-counted kind n = simp (length-append, length-decimal) (omega arith)
 
-pub counted-laid : (kind : List ℕ) (n at p q : ℕ) (d e f g : List ℕ) → p ≡ at + length kind → q ≡ p + digitCount 10 n
+pub counted-put : (kind : List ℕ) (n at p q : ℕ) (d e f g : List ℕ) → p ≡ at + length kind → q ≡ p + digitCount 10 n
     → e ≡ put d at kind → f ≡ put e p (decimal n) → g ≡ put f q (bytes ": ")
     → g ≡ put d at (counted kind n)
-counted-laid kind n at p q d e f g pe qe first second third =
+counted-put kind n at p q d e f g pe qe first second third =
     more d f g at q (kind ++ decimal n) _ (simp (length-append, length-decimal) (omega arith))
     (more d e f at p kind _ pe first second)
     third
 
 -- ---- the words of a number
 
--- A number that has no words lays nothing.
-pub nothing-laid : (out : List ℕ) (at : ℕ) (words : List ℕ) → words ≡ [] → (out ≡ put out at words) × (at ≡ at + length words)
-nothing-laid out at words e = rw e (sym (put-nil out at), sym (add-zero at))
-
+-- A number that has no words.
 pub none-above : (n : ℕ) → 17 ≤ n → sentence n ≡ []
 unfolding sentence sentences
 none-above n h = List·getD-eq-default sentences [] h
 
--- The table of the sentences, by tests computed over it: their lengths, ..
-pub lengths-rule : (lengths : List ℕ) → allBelow (λ k. eqb (getD lengths k 0) (length (sentence k))) 17 ≡ true → (n : ℕ) → n < 17 → getD lengths n 0 ≡ length (sentence n)
-lengths-rule lengths e n h = eqb-true _ _ (below (λ k. eqb (getD lengths k 0) (length (sentence k))) 17 e n h)
+-- The table's rows are as long, by a test computed over it.
+pub rows-length : (rows : List (List ℕ)) (d : List ℕ) → allBelow (λ k. eqb (length (getD rows k d)) 111) 17 ≡ true → (n : ℕ) → n < 17 → length (getD rows n d) ≡ 111
+rows-length rows d e n h = eqb-true _ _ (below (λ k. eqb (length (getD rows k d)) 111) 17 e n h)
 
+-- The longest is that of number 9.
 pub sentence-most : (n : ℕ) → n < 17 → length (sentence n) ≤ 111
 unfolding sentence
-sentence-most n h = leb-true _ _ (below (λ k. leb (length (sentence k)) 111) 17 refl n h)
-
--- .. and their bytes, each filled up to 111.
-module _ (rows : List (List ℕ)) (d : List ℕ) where
-  pub rows-length : allBelow (λ k. eqb (length (getD rows k d)) 111) 17 ≡ true → (n : ℕ) → n < 17 → length (getD rows n d) ≡ 111
-  rows-length e n h = eqb-true _ _ (below (λ k. eqb (length (getD rows k d)) 111) 17 e n h)
-
-  pub rows-rule : allBelow (λ k. same (take (length (sentence k)) (getD rows k d)) (sentence k)) 17 ≡ true → (n : ℕ) → n < 17
-      → take (length (sentence n)) (getD rows n d) ≡ sentence n
-  rows-rule e n h = table-rule (λ k. take (length (sentence k)) (getD rows k d)) sentence 17 e n h
+sentence-most = most-rule (λ k. length (sentence k)) 111 17 refl
 
 -- ---- the place
 
@@ -72,14 +59,14 @@ no-place number place other none = simp (other, none)
 
 -- ---- the line
 
-pub line-laid : (file : List ℕ) (number place p q r s t : ℕ) (d e f g h k : List ℕ)
+pub line-put : (file : List ℕ) (number place p q r s t : ℕ) (d e f g h k : List ℕ)
     → p ≡ 0 + length file → q ≡ p + 2 → r ≡ q + length (placeText number place)
     → s ≡ r + length (counted [] number) → t ≡ s + length (sentence number)
     → e ≡ put d 0 file → f ≡ put e p (bytes ": ") → g ≡ put f q (placeText number place)
     → h ≡ put g r (counted [] number) → k ≡ put h s (sentence number)
     → (set k t LF ≡ put d 0 (refusalLine file number place)) × (t + 1 ≡ length (refusalLine file number place))
 unfolding refusalLine
-line-laid file number place p q r s t d e f g h k pe qe re se te first second third fourth fifth =
+line-put file number place p q r s t d e f g h k pe qe re se te first second third fourth fifth =
     let colon = file ++ bytes ": " in
     let placed = colon ++ placeText number place in
     let numbered = placed ++ counted [] number in (

@@ -23,7 +23,7 @@ abbrev pub withPieces : Line → List (List ℕ) → Line
 withPieces l [] = l
 withPieces l (xs ∷ pieces) = withPieces (appended l xs) pieces
 
--- These pieces are laid at a place of a line, up to r.
-pub record Laid (pieces : List (List ℕ)) (before : List ℕ) (at : ℕ) (after : List ℕ) (r : ℕ) : Type 0 where
+-- These pieces are put at a place of a line, up to r.
+pub record PiecesPut (pieces : List (List ℕ)) (before : List ℕ) (at : ℕ) (after : List ℕ) (r : ℕ) : Type 0 where
   pub line : _≡_ {A = Line} (record { bytes = after; end = r }) (withPieces (record { bytes = before; end = at }) pieces)
   pub counts : Counts r after

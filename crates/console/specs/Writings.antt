@@ -18,7 +18,7 @@ isNoFile w = ltZ (w .fd) (pos 0)
 unfoldable pub through : ℤ → Writing
 through fd = cond (ltZ fd (pos 0)) noFile (record { fd = fd; «is_new» = false })
 
--- A file that was begun: one that can't be written is `noFile`, so no new file stands beside the old one.
+-- A file that was begun: one that can't be written is `noFile`.
 abbrev pub Begun : Writing → Type 0
 Begun w = isNoFile w ≡ true → w ≡ noFile
 

@@ -1,5 +1,5 @@
 // Names of files in the program's arguments.
-use crate::output::append;
+use crate::output::put_if_room;
 use crate::output::put_number;
 use crate::output::say;
 ghost use mathlib.Core.Path.{_≡_};
@@ -31,8 +31,8 @@ fn is_name(i: usize) -> bool {
 // Says that an argument is empty or too long.
 fn say_no_name(i: usize) {
     let mut line = [0u8; 64];
-    let number_at = append(&mut line, 0, b"argument ");
+    let number_at = put_if_room(&mut line, 0, b"argument ");
     let words_at = put_number(&mut line, number_at, i);
-    let end = append(&mut line, words_at, b" is empty or too long\n");
+    let end = put_if_room(&mut line, words_at, b" is empty or too long\n");
     say(&line[..end]);
 }

@@ -15,7 +15,7 @@ mod write;
 pub use arguments::are_names;
 pub use more::begin_more;
 pub use output::LINE;
-pub use output::append;
+pub use output::put_if_room;
 pub use output::put_number;
 pub use output::say;
 pub use output::say_of;

@@ -8,7 +8,7 @@ ghost use mathlib.Core.List.{[], _∷_};
 ghost use Prim.Native.Nat.{_≤_};
 ghost use lib.ListN.{length};
 ghost use Rattle.text.specs.Numerals.{decimal};
-ghost use Rattle.console.specs.Line.{Laid};
+ghost use Rattle.console.specs.Line.{PiecesPut};
 
 // Room for a line with three names of files.
 pub const LINE: usize = 16_384;
@@ -28,15 +28,15 @@ pub fn tell(bytes: &[u8]) {
 // Says words of a file, after its name.
 pub fn say_of(file: &[u8], words: &[u8]) {
     let mut line = [0u8; LINE];
-    let words_at = append(&mut line, 0, file);
-    let end = append(&mut line, words_at, words);
+    let words_at = put_if_room(&mut line, 0, file);
+    let end = put_if_room(&mut line, words_at, words);
     say(&line[..end]);
 }
 
-// Lays bytes at a place of a line and returns the place after them; where there is no room for them, lays none.
-pub fn append(line: &mut [u8], at: usize, bytes: &[u8]) -> usize
+// Puts bytes at a place of a line and returns the place after them; where there is no room for them, puts none.
+pub fn put_if_room(line: &mut [u8], at: usize, bytes: &[u8]) -> usize
     requires { ⌜ at ≤ length (now line) ⌝ }
-    ensures { λ r. ⌜ Laid (now (bytes .entry) ∷ []) (now (line .entry)) at (now (line .exit)) r ⌝ }
+    ensures { λ r. ⌜ PiecesPut (now (bytes .entry) ∷ []) (now (line .entry)) at (now (line .exit)) r ⌝ }
 {
     if line.len() - at < bytes.len() {
         return at;
@@ -44,10 +44,10 @@ pub fn append(line: &mut [u8], at: usize, bytes: &[u8]) -> usize
     put_bytes(line, at, bytes)
 }
 
-// Lays a number in decimal; where there is no room for it, lays nothing.
+// Puts a number in decimal; where there is no room for it, puts nothing.
 pub fn put_number(line: &mut [u8], at: usize, v: usize) -> usize
     requires { ⌜ at ≤ length (now line) ⌝ }
-    ensures { λ r. ⌜ Laid (decimal v ∷ []) (now (line .entry)) at (now (line .exit)) r ⌝ }
+    ensures { λ r. ⌜ PiecesPut (decimal v ∷ []) (now (line .entry)) at (now (line .exit)) r ⌝ }
 {
     if line.len() - at < digit_count(v as u64) {
         return at;

@@ -39,7 +39,7 @@ pub fn is_missing(path: &[u8]) -> bool
     false
 }
 
-// Lays the path of the new file beside the old one at the front and returns its length; 0 where it is too long for a path.
+// Puts the path of the new file beside the old one at the front and returns its length; 0 where it is too long for a path.
 pub fn put_new_path(path: &[u8], out: &mut [u8]) -> usize
     ensures { λ r. ⌜ (now (out .exit) ≡ put (now (out .entry)) 0 (newPath (length (now (out .entry))) (now (path .entry)))) × (r ≡ length (newPath (length (now (out .entry))) (now (path .entry)))) × Counts r (now (out .exit)) ⌝ }
 {

@@ -5,11 +5,10 @@ use text::decimal::digit_count;
 use text::decimal::put_decimal;
 use text::lines::LF;
 use text::place::put_bytes;
-ghost use mathlib.Core.Bool.{Bool};
 ghost use mathlib.Core.Path.{_≡_};
 ghost use Prim.Native.Nat.{_+_, _≤_};
 ghost use lib.ListN.{length};
-ghost use Rattle.text.specs.Place.{put};
+ghost use Rattle.text.specs.Place.{put, PutsWithin};
 ghost use Rattle.io.specs.Counts.{Counts};
 ghost use Rattle.console.specs.Refusals.{hasLine, counted, placeText, refusalLine};
 
@@ -31,7 +30,7 @@ pub fn say_refusal(file: &[u8], number: u32, place: usize) {
     say(&line[..end]);
 }
 
-// Lays the line of a refusal at the front and returns its length.
+// Puts the line of a refusal at the front and returns its length.
 fn put_refusal(out: &mut [u8], file: &[u8], number: u32, place: usize) -> usize
     requires { ⌜ length (now file) + 256 ≤ length (now out) ⌝ }
     ensures { λ r. ⌜ (now (out .exit) ≡ put (now (out .entry)) 0 (refusalLine (now (file .entry)) number place)) × (r ≡ length (refusalLine (now (file .entry)) number place)) × Counts r (now (out .exit)) ⌝ }
@@ -45,10 +44,10 @@ fn put_refusal(out: &mut [u8], file: &[u8], number: u32, place: usize) -> usize
     end + 1
 }
 
-// Lays the place of a refusal, as `line 3: `, and returns the place after it; a refusal that has no place lays nothing.
+// Puts the place of a refusal, as `line 3: `, and returns the place after it; a refusal that has no place puts nothing.
 fn put_place(out: &mut [u8], at: usize, number: u32, place: usize) -> usize
     requires { ⌜ at + 32 ≤ length (now out) ⌝ }
-    ensures { λ r. ⌜ (now (out .exit) ≡ put (now (out .entry)) at (placeText number place)) × (r ≡ at + length (placeText number place)) × (r ≤ at + 32) ⌝ }
+    ensures { λ r. ⌜ PutsWithin 32 (now (out .entry)) at (placeText number place) r (now (out .exit)) ⌝ }
 {
     if number == 16 {
         return put_counted(out, at, b"word ", place);
@@ -72,7 +71,7 @@ fn has_line(number: u32, place: usize) -> bool
     0 < place
 }
 
-// Lays what is counted and its number, and a colon and a blank after them; returns the place after these.
+// Puts what is counted and its number, and a colon and a blank after them; returns the place after these.
 fn put_counted(out: &mut [u8], at: usize, kind: &[u8], n: usize) -> usize
     requires { ⌜ (length (now kind) ≤ 5) × (at + length (now kind) + 27 ≤ length (now out)) ⌝ }
     ensures { λ r. ⌜ (now (out .exit) ≡ put (now (out .entry)) at (counted (now (kind .entry)) n)) × (r ≡ at + length (counted (now (kind .entry)) n)) × (r ≤ at + length (now (kind .entry)) + 22) ⌝ }

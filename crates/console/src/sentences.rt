@@ -3,7 +3,7 @@ use text::place::put_bytes;
 ghost use mathlib.Core.Path.{_≡_};
 ghost use Prim.Native.Nat.{_+_, _≤_, _<_};
 ghost use lib.ListN.{length, take};
-ghost use Rattle.text.specs.Place.{put};
+ghost use Rattle.text.specs.Place.{PutsWithin};
 ghost use Rattle.console.specs.Refusals.{sentence};
 
 // The sentences by their numbers, each filled up with blanks to 111 bytes, ..
@@ -48,10 +48,10 @@ const LENGTHS: [usize; 17] = [
     48,
 ];
 
-// Lays the words of a number at a place and returns the place after them; a number that has none lays nothing.
+// Puts the words of a number at a place and returns the place after them; a number that has none puts nothing.
 pub fn put_sentence(out: &mut [u8], at: usize, number: u32) -> usize
     requires { ⌜ at + 128 ≤ length (now out) ⌝ }
-    ensures { λ r. ⌜ (now (out .exit) ≡ put (now (out .entry)) at (sentence number)) × (r ≡ at + length (sentence number)) × (r ≤ at + 128) ⌝ }
+    ensures { λ r. ⌜ PutsWithin 128 (now (out .entry)) at (sentence number) r (now (out .exit)) ⌝ }
 {
     if 16 < number {
         return at;

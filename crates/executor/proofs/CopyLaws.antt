@@ -1,27 +1,21 @@
 -- A sector copied whole. Assumes nothing.
 use Prim.Native.Nat.{ℕ, _+_, _-_, _*_, _≤_}
-use mathlib.Core.Path.{_≡_, refl, sym, _∙_, ap}
+use mathlib.Core.Path.{_≡_, refl, _∙_, ap}
 use mathlib.Core.Bool.{Bool, true, false, cond, _&&_}
-use mathlib.Core.List.{List, _++_, append-assoc}
+use mathlib.Core.List.{List}
 use native.Mathlib.Omega.{arith}
 use lib.Dec.{eqb, leb}
 use lib.ListN.{length, getD, take, drop, length-take, length-drop}
-use lib.Seq.{sets-eq}
 use borrow.Author.Tests.{leb-true}
-use borrow.Rule.Slice.PartMut.{midOf, putMid, post-is, put-same}
+use borrow.Rule.Slice.PartMut.{midOf, putMid, put-same}
 use Rattle.text.specs.Place.{put}
+use Rattle.text.proofs.PutLaws.{put-part}
 use Rattle.isa.specs.Registers.{disksector, diskbuffer}
 use Rattle.machine.specs.declared.Core.{Core}
 use Rattle.executor.specs.Lent.{packed}
 use Rattle.machine.specs.Execution.{isReadOrWrite, copied}
 
--- A part of a list that comes back as other numbers, as many.
-put-part : (d ys : List ℕ) (at n : ℕ) → length ys ≡ n → at + n ≤ length d → putMid at (at + n - at) d ys ≡ put d at ys
-unfolding put
-put-part d ys at n e h =
-    ap (λ (z : List ℕ). take at d ++ (ys ++ z)) (post-is at (at + n) d (omega arith)) ∙ rw (← e, ← append-assoc) (sym (sets-eq ys d at (omega arith)))
-
--- The part that came back is a part of another list.
+-- A part of a list that is lent and comes back as a part of another list.
 part-copied : (d s ys : List ℕ) (at from n : ℕ) → at + n ≤ length d → from + n ≤ length s → ys ≡ take (from + n - from) (drop from s)
     → putMid at (at + n - at) d ys ≡ put d at (take n (drop from s))
 part-copied d s ys at from n h k e =

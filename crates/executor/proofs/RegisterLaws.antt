@@ -33,14 +33,14 @@ drop-set registers n x low =
 -- It is written, with its text.
 pub text-written : (registers text after : List ℕ) (n x : ℕ) → 3 ≤ n → n < 16 → HaveText registers text → after ≡ put text ((n - 3) * 9 + 1) (digits 16 8 x)
     → (set registers n x ≡ stored n x registers) × HaveText (set registers n x) after
-text-written registers text after n x low high k laid =
+text-written registers text after n x low high k is-put =
     let sixteen = k .sixteen in
     let room : n - 3 < length (drop 3 registers) = rw length-drop (omega arith) in (
       rw (le-ltb n 3 low) refl,
       record {
         sixteen = length-set registers n x ∙ k .sixteen;
         zero = getD-set-other registers n 0 x 0 (λ e. omega arith) ∙ k .zero;
-        is = text-set (drop 3 registers) text after (n - 3) x room (k .is) laid ∙ ap registersText (sym (drop-set registers n x low));
+        is = text-set (drop 3 registers) text after (n - 3) x room (k .is) is-put ∙ ap registersText (sym (drop-set registers n x low));
       },
     )
 

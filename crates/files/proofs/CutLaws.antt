@@ -2,47 +2,51 @@
 -- and one byte more decide what a reader tells and leaves. Who reads a text of any length needs to keep no more of it. Assumes nothing.
 use Prim.Native.Nat.{ℕ, zero, suc, _+_, _-_, _*_, _≤_, _<_}
 use mathlib.Core.Path.{_≡_, refl, sym, _∙_, ap}
-use mathlib.Core.Bool.{Bool, true, false}
-use mathlib.Core.List.{List}
+use mathlib.Core.Bool.{Bool, true, false, cond}
+use mathlib.Core.List.{List, [], _∷_}
 use native.Mathlib.Nat.{suc-mul}
 use native.Mathlib.Omega.{arith}
-use lib.ListN.{length, take, drop, length-drop}
-use lib.Seq.{take-all, take-add, take-take, drop-at, getD-take, length-take-le}
-use lib.Dec.{leb}
-use borrow.Author.Tests.{lt-ltb, leb-true, leb-false, ne-eqb}
+use lib.ListN.{length, take, drop}
+use lib.Seq.{take-all, length-take-le}
+use lib.Dec.{eqb, leb}
+use borrow.Author.Tests.{leb-true, leb-false, ne-eqb}
 use Rattle.text.specs.declared.Outcome.{Outcome}
 use Rattle.text.specs.Questions.{accepted, firstBad}
-use Rattle.text.specs.Numerals.{allDigits}
-use Rattle.text.specs.Lines.{lines, firstLine, endsLine}
+use Rattle.text.specs.Lines.{LF, lines, firstLine}
 use Rattle.text.proofs.QuestionLaws.{first-yes}
 use Rattle.files.specs.declared.FileRead.{FileRead}
-use Rattle.files.specs.Sizes.{imageWords, imageDigits, isImageLength}
 use Rattle.files.specs.MemoryFile.{isWord, wordQuestions, linesOutcome, readOutcome}
 use Rattle.files.specs.Promises.{MemoryRead}
-use Rattle.files.proofs.CheckLaws.{word-long, word-front, check-full, check-bad, check-good, good-room, good-next}
+use Rattle.files.proofs.CheckLaws.{check-full, check-bad, check-good, good-room, good-next}
+use Rattle.files.proofs.PutLaws.{drop-take}
 
 -- ---- one line
 
--- Whether the first line is a word of k digits is seen from k + 1 bytes.
-module _ (k m : ℕ) (s : List ℕ) (h : k < m) (long : m < length s) where
-  ends-cut : endsLine (take m s) k ≡ endsLine s k
-  ends-cut = rw (length-take-le m s (omega arith), lt-ltb k m h, lt-ltb k (length s) (omega arith), getD-take m s k 0 h)
+-- The first line of a front is a front of the first line.
+first-take : (n : ℕ) (s : List ℕ) → firstLine (take n s) ≡ take n (firstLine s)
+unfolding firstLine
+first-take zero s = refl
+first-take (suc n) [] = refl
+first-take (suc n) (c ∷ s) = go (eqb c LF) (first-take n s)
+  where
+    go : (t : Bool) → firstLine (take n s) ≡ take n (firstLine s) → cond t [] (c ∷ firstLine (take n s)) ≡ take (suc n) (cond t [] (c ∷ firstLine s))
+    go true h = refl
+    go false h = ap (λ (l : List ℕ). c ∷ l) h
 
-  word-cut : isWord k (firstLine (take m s)) ≡ isWord k (firstLine s)
-  word-cut = go (endsLine s k) refl
-    where
-      go : (t : Bool) → endsLine s k ≡ t → isWord k (firstLine (take m s)) ≡ isWord k (firstLine s)
-      go true e =
-          sym (word-front k (take m s) (rw (length-take-le m s (omega arith)) (omega arith)) (ends-cut ∙ e))
-          ∙ ap (allDigits 16) (take-take k m s (omega arith))
-          ∙ word-front k s (omega arith) e
-      go false e = sym (word-long k (take m s) (ends-cut ∙ e)) ∙ word-long k s e
+-- Where a line that is good has at most k bytes, k + 1 bytes tell whether the first line is good.
+pub good-cut : (isGood : List ℕ → Bool) (k m : ℕ) (s : List ℕ) → ((l : List ℕ) → k < length l → isGood l ≡ false) → k < m
+    → isGood (firstLine (take m s)) ≡ isGood (firstLine s)
+good-cut isGood k m s long h = ap isGood (first-take m s) ∙ go (leb (length (firstLine s)) m) refl
+  where
+    go : (t : Bool) → leb (length (firstLine s)) m ≡ t → isGood (take m (firstLine s)) ≡ isGood (firstLine s)
+    go true e = ap isGood (take-all m (firstLine s) (leb-true (length (firstLine s)) m e))
+    go false e =
+        let over = leb-false (length (firstLine s)) m e in
+        long (take m (firstLine s)) (rw (length-take-le m (firstLine s) (omega arith)) h) ∙ sym (long (firstLine s) (omega arith))
 
--- The bytes from a place on.
-drop-cut : (at m : ℕ) (s : List ℕ) → at ≤ m → m ≤ length s → drop at (take m s) ≡ take (m - at) (drop at s)
-drop-cut at m s h long =
-    let parts : m ≡ at + (m - at) = omega arith in
-    ap (λ (n : ℕ). drop at (take n s)) parts ∙ ap (drop at) (take-add at (m - at) s) ∙ drop-at (take at s) (take (m - at) (drop at s)) at (length-take-le at s (omega arith))
+-- A line of at most as many bytes is the same.
+pub line-cut : (m : ℕ) (s : List ℕ) → length (firstLine s) ≤ m → firstLine (take m s) ≡ firstLine s
+line-cut m s h = first-take m s ∙ take-all m (firstLine s) h
 
 -- ---- one line after the other
 
@@ -66,8 +70,8 @@ module _ (k room : ℕ) (text : List ℕ) where
     -- The line at a place is a word, or none, in both.
     same-word : (at : ℕ) → at + k < m → isWord k (firstLine (drop at (take m text))) ≡ isWord k (firstLine (drop at text))
     same-word at h =
-        ap (λ (s : List ℕ). isWord k (firstLine s)) (drop-cut at m text (omega arith) (omega arith))
-        ∙ word-cut k (m - at) (drop at text) (omega arith) (rw length-drop (omega arith))
+        ap (λ (s : List ℕ). isWord k (firstLine s)) (drop-take at m text)
+        ∙ good-cut (isWord k) k (m - at) (drop at text) (λ l more. rw (ne-eqb (length l) k (omega arith))) (omega arith)
 
     -- One line: where it is good, what is told of the lines after it is told.
     same-line : (i at : ℕ) → i < room → at + k < m
@@ -130,8 +134,3 @@ module _ (k : ℕ) (isRight : ℕ → Bool) (m : ℕ) (text : List ℕ) where
           let same = cut-read-outcome (length memory) h in
           let refusal = ne-eqb (readOutcome k isRight (length memory) text .number) 0 (cut-refused (length memory) h (leb-false (length text) m e)) in
           record { answer = p .answer ∙ same; words = rw (same, refusal) at (p .words) ∙ rw refusal }
-
--- An instruction file: of 53,249 bytes or more.
-pub image-cut : (m : ℕ) (text image : List ℕ) (r : FileRead) (after : List ℕ) → length image ≡ imageWords → 53248 < m
-    → MemoryRead imageDigits isImageLength (take m text) image r after → MemoryRead imageDigits isImageLength text image r after
-image-cut m text image r after size h p = cut-read imageDigits isImageLength m text image r after (rw size (omega arith)) p

@@ -51,12 +51,15 @@ cycle-below l v e =
     rw is (ltb-true (value 10 l) cycleLimit (and-right (leb 1 (length l) && leb (length l) 13 && allDigits 10 l) (ltb (value 10 l) cycleLimit) good))
 
 -- The digits of a cycle, which are few.
-cycle-digits : (l : List ℕ) → isCycle l ≡ true → (allDigits 10 l ≡ true) × (10 ^ length l ≤ 2 ^ 64)
-cycle-digits l e =
-    let form = and-left (leb 1 (length l) && leb (length l) 13 && allDigits 10 l) (ltb (value 10 l) cycleLimit) e in
-    let size = and-left (leb 1 (length l) && leb (length l) 13) (allDigits 10 l) form in
-    let few = leb-true (length l) 13 (and-right (leb 1 (length l)) (leb (length l) 13) size) in
-    (and-right (leb 1 (length l) && leb (length l) 13) (allDigits 10 l) form, few-fit (length l) few)
+module _ (l : List ℕ) (e : isCycle l ≡ true) where
+  form : (leb 1 (length l) && leb (length l) 13 && allDigits 10 l) ≡ true
+  form = and-left (leb 1 (length l) && leb (length l) 13 && allDigits 10 l) (ltb (value 10 l) cycleLimit) e
+
+  pub cycle-few : length l ≤ 13
+  cycle-few = leb-true (length l) 13 (and-right (leb 1 (length l)) (leb (length l) 13) (and-left (leb 1 (length l) && leb (length l) 13) (allDigits 10 l) form))
+
+  cycle-digits : (allDigits 10 l ≡ true) × (10 ^ length l ≤ 2 ^ 64)
+  cycle-digits = (and-right (leb 1 (length l) && leb (length l) 13) (allDigits 10 l) form, few-fit (length l) cycle-few)
 
 -- ---- one line after the other
 

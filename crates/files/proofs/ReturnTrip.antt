@@ -10,7 +10,7 @@ use native.Mathlib.Nat.{one-le-pow, mod-mod, le-refl, zero-add}
 use native.Mathlib.Omega.{arith}
 use lib.ListN.{length, take, drop, replicate, length-map, take-append-drop}
 use lib.Seq.{take-append-seam, drop-append-seam, sets-eq, take-add}
-use lib.Dec.{ltb}
+use lib.Dec.{eqb, ltb}
 use borrow.Author.Tests.{lt-ltb, le-leb, eq-eqb}
 use Rattle.text.specs.declared.Outcome.{Outcome}
 use Rattle.text.specs.Questions.{accepted, firstBad}
@@ -24,7 +24,7 @@ use Rattle.text.proofs.LineLaws.{lines-unlines, written-no-lf}
 use Rattle.text.proofs.PutLaws.{put-front}
 use Rattle.text.proofs.RangeLaws.{below-append, below-zeros, below-part, below-mod}
 use Rattle.files.proofs.FillLaws.{word-lt}
-use Rattle.files.proofs.LayLaws.{length-text}
+use Rattle.files.proofs.PutLaws.{length-text}
 use Rattle.files.proofs.SizeLaws.{part-words, part-within, length-part, length-sectors, is-part}
 use Rattle.files.specs.declared.FileRead.{FileRead}
 use Rattle.files.specs.declared.Written.{Written}
@@ -111,16 +111,27 @@ module _ (k : ℕ) (m : List ℕ) where
 
 -- ---- the four memories
 
+-- A memory of n words, written whole and read.
+module _ (k n : ℕ) (m out d : List ℕ) (w : Written) (sent : List ℕ) (r : FileRead) (after : List ℕ)
+    (size : length m ≡ n) (room : n * (k + 1) ≤ length out) (size′ : length d ≡ n)
+    (p : TextWritten (eqb (length m) n) (fileText k m) out w sent) (q : MemoryRead k (λ x. eqb x n) (take (n * (k + 1)) sent) d r after) where
+  memory-returns : (writtenOutcome w ≡ accepted (n * (k + 1))) × (fileReadOutcome r ≡ accepted 0) × (after ≡ map (λ word. word % 16 ^ k) m)
+  memory-returns =
+      let bytes : length (fileText k m) ≡ n * (k + 1) = rw (length-text, size) in
+      let trip = return-trip k m (eqb (length m) n) (λ x. eqb x n) out d w sent r after
+      (eq-eqb (length m) n size) (eq-eqb (length d) n size′) (rw bytes room) (size′ ∙ sym size) p (rw bytes q) in
+      (trip .0 ∙ ap accepted bytes, trip .1, trip .2)
+
+  -- Words of no more than k digits come back as they were.
+  words-return : Below (16 ^ k) m → (writtenOutcome w ≡ accepted (n * (k + 1))) × (fileReadOutcome r ≡ accepted 0) × (after ≡ m)
+  words-return below = let trip = memory-returns in (trip .0, trip .1, trip .2 ∙ below-mod (16 ^ k) m below)
+
 pub image-returns : (image out d : List ℕ) (w : Written) (sent : List ℕ) (r : FileRead) (after : List ℕ)
     → length image ≡ imageWords → 53248 ≤ length out → length d ≡ imageWords
     → TextWritten (isImageLength (length image)) (fileText imageDigits image) out w sent
     → MemoryRead imageDigits isImageLength (take 53248 sent) d r after
     → (writtenOutcome w ≡ accepted 53248) × (fileReadOutcome r ≡ accepted 0) × (after ≡ low48 image)
-image-returns image out d w sent r after size room size′ p q =
-    let bytes : length (fileText 12 image) ≡ 53248 = rw (length-text, size) in
-    let trip = return-trip 12 image (isImageLength (length image)) isImageLength out d w sent r after
-    (eq-eqb (length image) 4096 size) (eq-eqb (length d) 4096 size′) (rw bytes room) (size′ ∙ sym size) p (rw bytes q) in
-    (trip .0 ∙ ap accepted bytes, trip .1, trip .2)
+image-returns image out d w sent r after size room size′ p q = memory-returns 12 4096 image out d w sent r after size room size′ p q
 
 -- The same image comes back; what is written of an image doesn't depend on bits above 47; and every image that is read has zeros there.
 pub same-image-returns : (image : List ℕ) → SameImage (low48 image) image
@@ -157,22 +168,14 @@ pub data-returns : (memory out d : List ℕ) (w : Written) (sent : List ℕ) (r 
     → TextWritten (isDataLength (length memory)) (fileText wordDigits memory) out w sent
     → MemoryRead wordDigits isDataLength (take 36864 sent) d r after
     → (writtenOutcome w ≡ accepted 36864) × (fileReadOutcome r ≡ accepted 0) × (after ≡ memory)
-data-returns memory out d w sent r after size below room size′ p q =
-    let bytes : length (fileText 8 memory) ≡ 36864 = rw (length-text, size) in
-    let trip = return-trip 8 memory (isDataLength (length memory)) isDataLength out d w sent r after
-    (eq-eqb (length memory) 4096 size) (eq-eqb (length d) 4096 size′) (rw bytes room) (size′ ∙ sym size) p (rw bytes q) in
-    (trip .0 ∙ ap accepted bytes, trip .1, trip .2 ∙ below-mod (2 ^ 32) memory below)
+data-returns memory out d w sent r after size below room size′ p q = words-return 8 4096 memory out d w sent r after size room size′ p q below
 
 pub frame-returns : (frame out d : List ℕ) (w : Written) (sent : List ℕ) (r : FileRead) (after : List ℕ)
     → length frame ≡ frameBytes → Below (2 ^ 8) frame → 196608 ≤ length out → length d ≡ frameBytes
     → TextWritten (isFrameLength (length frame)) (fileText frameDigits frame) out w sent
     → MemoryRead frameDigits isFrameLength (take 196608 sent) d r after
     → (writtenOutcome w ≡ accepted 196608) × (fileReadOutcome r ≡ accepted 0) × (after ≡ frame)
-frame-returns frame out d w sent r after size below room size′ p q =
-    let bytes : length (fileText 2 frame) ≡ 196608 = rw (length-text, size) in
-    let trip = return-trip 2 frame (isFrameLength (length frame)) isFrameLength out d w sent r after
-    (eq-eqb (length frame) 65536 size) (eq-eqb (length d) 65536 size′) (rw bytes room) (size′ ∙ sym size) p (rw bytes q) in
-    (trip .0 ∙ ap accepted bytes, trip .1, trip .2 ∙ below-mod (2 ^ 8) frame below)
+frame-returns frame out d w sent r after size below room size′ p q = words-return 2 65536 frame out d w sent r after size room size′ p q below
 
 -- A part of the disk, read into a part of as many sectors.
 pub disk-returns : (disk out d : List ℕ) (first sectors : ℕ) (w : Written) (sent : List ℕ) (r : FileRead) (after : List ℕ)

@@ -4,14 +4,13 @@ use mathlib.Core.Path.{_≡_}
 use mathlib.Core.Bool.{true, _&&_}
 use mathlib.Core.List.{List}
 use native.Mathlib.Omega.{arith}
-use lib.ListN.{length, drop, length-drop}
-use lib.Seq.{length-take-le}
+use lib.ListN.{length}
 use lib.Dec.{eqb, ltb, leb}
 use borrow.Author.Tests.{eqb-true, ltb-true, leb-true, eq-eqb, le-leb}
 use Rattle.text.proofs.Truth.{and-left, and-right}
 use Rattle.files.specs.Sizes.{isPartLength, isDiskPart}
 use Rattle.files.specs.MemoryFile.{sectorsOf, fileText}
-use Rattle.files.proofs.LayLaws.{length-text}
+use Rattle.files.proofs.PutLaws.{length-text, length-words}
 
 module _ (n first sectors : ℕ) (h : isDiskPart n first sectors ≡ true) where
   size : (eqb n 16384 && ltb 0 sectors) ≡ true
@@ -32,7 +31,7 @@ module _ (disk : List ℕ) (first sectors : ℕ) (h : isDiskPart (length disk) f
   length-sectors =
       let words = part-words (length disk) first sectors h in
       let within = part-within (length disk) first sectors h in
-      length-take-le (128 * sectors) (drop (128 * first) disk) (rw length-drop (omega arith))
+      length-words disk first sectors (omega arith)
 
   -- Its text has 128 lines of 9 bytes a sector.
   pub length-part : length (fileText 8 (sectorsOf disk first sectors)) ≡ 1152 * sectors

@@ -4,5 +4,6 @@ pub mod MemoryFile
 pub mod Irq2File
 pub mod Answers
 pub mod Promises
+pub mod Front
 pub mod Loaded
 pub mod Examples

@@ -6,6 +6,7 @@ use text::Outcome;
 use text::outcomes::accepted;
 use text::outcomes::refused;
 ghost use mathlib.Core.Path.{_≡_};
+ghost use lib.Dec.{eqb};
 ghost use Rattle.files.specs.Answers.{fileReadOutcome, cyclesReadOutcome, writtenOutcome};
 
 impl FileRead {
@@ -18,6 +19,18 @@ impl FileRead {
             FileRead::WrongLength => refused(1, 0),
             FileRead::NoWord(line) => refused(10, line),
             FileRead::BadDigits(line) => refused(9, line),
+        }
+    }
+
+    // Whether the file is good.
+    pub fn is_filled(self) -> bool
+        ensures { λ r. ⌜ r ≡ eqb (fileReadOutcome self .number) 0 ⌝ }
+    {
+        match self {
+            FileRead::Filled => true,
+            FileRead::WrongLength => false,
+            FileRead::NoWord(_) => false,
+            FileRead::BadDigits(_) => false,
         }
     }
 }

@@ -3,8 +3,6 @@ use crate::sizes::FRAME_DIGITS;
 use crate::sizes::FRAME_LINE;
 use crate::sizes::IMAGE_DIGITS;
 use crate::sizes::IMAGE_LINE;
-use crate::sizes::WORD_DIGITS;
-use crate::sizes::WORD_LINE;
 use text::digits::value_of;
 ghost use mathlib.Core.Path.{_≡_};
 ghost use mathlib.Core.Bool.{true};
@@ -13,7 +11,7 @@ ghost use Prim.Native.Nat.{_-_, _≤_, _<_};
 ghost use lib.ListN.{length, take, drop, replicate};
 ghost use Rattle.text.specs.Numerals.{DigitValues, value};
 ghost use Rattle.text.specs.Lines.{firstLine, lines};
-ghost use Rattle.files.specs.Sizes.{imageDigits, wordDigits, frameDigits};
+ghost use Rattle.files.specs.Sizes.{imageDigits, frameDigits};
 ghost use Rattle.files.specs.MemoryFile.{isWord, linesOutcome, fileWords};
 
 // The number on the line that begins at `at`, which is k hexadecimal digits.
@@ -51,16 +49,16 @@ fn clear_image(image: &mut [u64], from: usize)
     }
 }
 
-// Sets every word from a good file of 8 digits a line.
-pub fn fill_words(text: &[u8], memory: &mut [u32], values: &[u8; 256])
-    requires { ⌜ (linesOutcome wordDigits (length (now memory)) (now text) .number ≡ 0) × DigitValues (now values) ⌝ }
+// Sets every word from a good file of k digits a line, no more than 32 bits hold.
+pub fn fill_words(text: &[u8], memory: &mut [u32], k: usize, values: &[u8; 256])
+    requires { ⌜ (linesOutcome k (length (now memory)) (now text) .number ≡ 0) × ((k ≤ 8) × DigitValues (now values)) ⌝ }
     ensures { λ _. ⌜ now (memory .exit) ≡ fileWords (length (now (memory .entry))) (lines (now (text .entry))) ⌝ }
 {
     let mut at = 0;
     let mut i = 0;
     while at < text.len() {
-        memory[i] = word(text, at, WORD_DIGITS, values) as u32;
-        at += WORD_LINE;
+        memory[i] = word(text, at, k, values) as u32;
+        at += k + 1;
         i += 1;
     }
     clear_words(memory, i);

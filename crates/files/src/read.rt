@@ -13,6 +13,7 @@ use crate::sizes::WORD_DIGITS;
 use crate::sizes::is_part;
 use text::digits::digit_values;
 ghost use mathlib.Core.Bool.{true};
+ghost use Prim.Native.Nat.{_≤_};
 ghost use Rattle.files.specs.Sizes.{isImageLength, isDataLength, isFrameLength, isPartLength, imageDigits, wordDigits, frameDigits};
 ghost use Rattle.files.specs.Promises.{MemoryRead};
 
@@ -24,15 +25,11 @@ pub fn read_image(text: &[u8], image: &mut [u64]) -> FileRead
         return FileRead::WrongLength;
     }
     let values = digit_values();
-    match check_words(text, IMAGE_DIGITS, image.len(), &values) {
-        FileRead::Filled => {
-            fill_image(text, image, &values);
-            FileRead::Filled
-        }
-        FileRead::WrongLength => FileRead::WrongLength,
-        FileRead::NoWord(line) => FileRead::NoWord(line),
-        FileRead::BadDigits(line) => FileRead::BadDigits(line),
+    let answer = check_words(text, IMAGE_DIGITS, image.len(), &values);
+    if answer.is_filled() {
+        fill_image(text, image, &values);
     }
+    answer
 }
 
 // Reads a file of data: 8 digits a line, into 4,096 words.
@@ -42,7 +39,7 @@ pub fn read_data(text: &[u8], memory: &mut [u32]) -> FileRead
     if memory.len() != DATA_WORDS {
         return FileRead::WrongLength;
     }
-    read_words(text, memory)
+    read_words(text, memory, WORD_DIGITS)
 }
 
 // Reads a file of disk words: 8 digits a line, into a part of whole sectors.
@@ -52,23 +49,20 @@ pub fn read_disk(text: &[u8], part: &mut [u32]) -> FileRead
     if !is_part(part.len()) {
         return FileRead::WrongLength;
     }
-    read_words(text, part)
+    read_words(text, part, WORD_DIGITS)
 }
 
-// Reads words of 8 digits into a memory whose length has been asked.
-fn read_words(text: &[u8], memory: &mut [u32]) -> FileRead
-    ensures { λ r. ⌜ MemoryRead wordDigits (λ n. true) (now (text .entry)) (now (memory .entry)) r (now (memory .exit)) ⌝ }
+// Reads words of k digits, no more than 32 bits hold, into a memory whose length has been asked.
+fn read_words(text: &[u8], memory: &mut [u32], k: usize) -> FileRead
+    requires { ⌜ k ≤ 8 ⌝ }
+    ensures { λ r. ⌜ MemoryRead k (λ n. true) (now (text .entry)) (now (memory .entry)) r (now (memory .exit)) ⌝ }
 {
     let values = digit_values();
-    match check_words(text, WORD_DIGITS, memory.len(), &values) {
-        FileRead::Filled => {
-            fill_words(text, memory, &values);
-            FileRead::Filled
-        }
-        FileRead::WrongLength => FileRead::WrongLength,
-        FileRead::NoWord(line) => FileRead::NoWord(line),
-        FileRead::BadDigits(line) => FileRead::BadDigits(line),
+    let answer = check_words(text, k, memory.len(), &values);
+    if answer.is_filled() {
+        fill_words(text, memory, k, &values);
     }
+    answer
 }
 
 // Reads a file of the frame: 2 digits a line, into 65,536 bytes.
@@ -79,13 +73,9 @@ pub fn read_frame(text: &[u8], frame: &mut [u8]) -> FileRead
         return FileRead::WrongLength;
     }
     let values = digit_values();
-    match check_words(text, FRAME_DIGITS, frame.len(), &values) {
-        FileRead::Filled => {
-            fill_frame(text, frame, &values);
-            FileRead::Filled
-        }
-        FileRead::WrongLength => FileRead::WrongLength,
-        FileRead::NoWord(line) => FileRead::NoWord(line),
-        FileRead::BadDigits(line) => FileRead::BadDigits(line),
+    let answer = check_words(text, FRAME_DIGITS, frame.len(), &values);
+    if answer.is_filled() {
+        fill_frame(text, frame, &values);
     }
+    answer
 }

@@ -1,8 +1,8 @@
 // The writers of memory files.
 use crate::Written;
-use crate::lay::lay_frame;
-use crate::lay::lay_image;
-use crate::lay::lay_words;
+use crate::put::put_frame;
+use crate::put::put_image;
+use crate::put::put_words;
 use crate::sizes::DATA_TEXT;
 use crate::sizes::DATA_WORDS;
 use crate::sizes::FRAME_BYTES;
@@ -10,6 +10,7 @@ use crate::sizes::FRAME_TEXT;
 use crate::sizes::IMAGE_TEXT;
 use crate::sizes::IMAGE_WORDS;
 use crate::sizes::SECTOR_TEXT;
+use crate::sizes::WORD_DIGITS;
 use crate::sizes::is_part_of;
 use text::digits::hex_pairs;
 ghost use mathlib.Core.Path.{_≡_};
@@ -32,7 +33,7 @@ pub fn write_image(image: &[u64], text: &mut [u8]) -> Written
         return Written::NoRoom;
     }
     let pairs = hex_pairs();
-    Written::Bytes(lay_image(image, text, 0, &pairs))
+    Written::Bytes(put_image(image, text, 0, &pairs))
 }
 
 // Writes the data memory, 4,096 words, as 8 digits a line.
@@ -46,7 +47,7 @@ pub fn write_data(memory: &[u32], text: &mut [u8]) -> Written
         return Written::NoRoom;
     }
     let pairs = hex_pairs();
-    Written::Bytes(lay_words(memory, text, 0, &pairs))
+    Written::Bytes(put_words(memory, WORD_DIGITS, text, 0, &pairs))
 }
 
 // Writes the frame, 65,536 bytes, as 2 digits a line.
@@ -60,7 +61,7 @@ pub fn write_frame(frame: &[u8], text: &mut [u8]) -> Written
         return Written::NoRoom;
     }
     let pairs = hex_pairs();
-    Written::Bytes(lay_frame(frame, text, 0, &pairs))
+    Written::Bytes(put_frame(frame, text, 0, &pairs))
 }
 
 // Writes so many sectors of the disk, 16,384 words, from sector `first` on, as 8 digits a line.
@@ -74,11 +75,11 @@ pub fn write_disk(disk: &[u32], first: usize, sectors: usize, text: &mut [u8]) -
         return Written::NoRoom;
     }
     let pairs = hex_pairs();
-    Written::Bytes(lay_sectors(disk, first, sectors, text, &pairs))
+    Written::Bytes(put_sectors(disk, first, sectors, text, &pairs))
 }
 
-// Lays so many sectors of the disk from sector `first` on, each as a part of the disk, and returns the place after them.
-fn lay_sectors(
+// Puts so many sectors of the disk from sector `first` on, each as a part of the disk, and returns the place after them.
+fn put_sectors(
     disk: &[u32],
     first: usize,
     sectors: usize,
@@ -91,7 +92,7 @@ fn lay_sectors(
     let mut at = 0;
     let mut s = first;
     while s < first + sectors {
-        at = lay_words(&disk[128 * s..128 * s + 128], text, at, pairs);
+        at = put_words(&disk[128 * s..128 * s + 128], WORD_DIGITS, text, at, pairs);
         s += 1;
     }
     at

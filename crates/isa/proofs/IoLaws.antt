@@ -5,10 +5,10 @@ use mathlib.Core.Bool.{Bool, true, false, false≢true}
 use mathlib.Core.List.{[]}
 use native.Mathlib.Nat.{mod-eq-of-lt}
 use native.Mathlib.Omega.{arith}
-use lib.Dec.{leb, ltb}
+use lib.Dec.{ltb}
 use lib.ListN.{length, List·getD-eq-default}
-use borrow.Author.Tests.{leb-true, ltb-true, ltb-false}
-use Rattle.text.proofs.Truth.{below}
+use borrow.Author.Tests.{ltb-true, ltb-false}
+use Rattle.text.proofs.TableLaws.{most-rule}
 use Rattle.isa.specs.Registers.{ioRegisters, notListed, IoRegister, ioName, ioBits, isListed}
 
 pub no-bits-above : (n : ℕ) → 23 ≤ n → ioBits n ≡ 0
@@ -43,5 +43,5 @@ unfolding ioName
 name-length n = go (ltb n 23) refl
   where
     go : (t : Bool) → ltb n 23 ≡ t → length (ioName n) ≤ 12
-    go true e = leb-true _ _ (below (λ k. leb (length (ioName k)) 12) 23 refl n (ltb-true n 23 e))
+    go true e = most-rule (λ k. length (ioName k)) 12 23 refl n (ltb-true n 23 e)
     go false e = rw (no-name-above n (ltb-false n 23 e)) (omega arith)

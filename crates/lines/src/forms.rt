@@ -19,7 +19,7 @@ ghost use Rattle.lines.specs.Parts.{partCount, mostPlaces, Formed, First
 // Places for the start and the end of as many tokens as a line can have, and of one more.
 pub const PLACES: usize = 28;
 
-// The form of a line; the places of its tokens are laid into `places`.
+// The form of a line; the places of its tokens are put into `places`.
 pub fn line_form(line: &[u8], places: &mut [usize], values: &[u8; 256]) -> Form
     requires { ⌜ (length (now places) ≡ mostPlaces) × DigitValues (now values) ⌝ }
     ensures { λ r. ⌜ Formed (now (line .entry)) (now (places .exit)) r ⌝ }

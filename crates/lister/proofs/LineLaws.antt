@@ -1,4 +1,4 @@
--- The line of a word: its length, and its pieces laid one after another. Assumes nothing.
+-- The line of a word: its length, and its pieces put one after another. Assumes nothing.
 use Prim.Native.Nat.{ℕ, _+_, _-_, _≤_, _<_}
 use mathlib.Core.Path.{_≡_, refl, _∙_, ap}
 use mathlib.Core.Bool.{Bool, true, false}
@@ -18,10 +18,10 @@ use Rattle.isa.specs.Operations.{operationName}
 use Rattle.isa.specs.Registers.{registerName}
 use Rattle.isa.proofs.NameLaws.{no-operation, no-register}
 use Rattle.lister.specs.Listing.{signedDecimal, separated, listedLine}
-use Rattle.lister.specs.Pieces.{operationPiece, registerPiece, registerPieces, LaidWith}
+use Rattle.lister.specs.Pieces.{operationPiece, registerPiece, registerPieces, PutWith}
 use Rattle.text.proofs.PieceLaws.{more, store-after}
 use Rattle.lister.proofs.ImmediateLaws.{immediate-most}
-use Rattle.lister.proofs.PieceLaws.{laid-more}
+use Rattle.lister.proofs.PieceLaws.{put-more}
 
 -- ---- names
 
@@ -89,28 +89,28 @@ pub register-least : (n : ℕ) → n < 16 → 5 ≤ length (registerPiece n)
 unfolding registerName
 register-least n h = leb-true _ _ (below (λ k. leb 5 (length (registerPiece k))) 16 refl n h)
 
--- The bytes that have to be laid after a register fill eight with it: three are enough.
-pub register-laid : (n : ℕ) (d e : List ℕ) (at to : ℕ) → n < 16 → LaidWith (8 - length (registerPiece n)) d at (registerPiece n) e to → LaidWith 3 d at (registerPiece n) e to
-register-laid n d e at to named laid rest enough = laid rest (omega (arith, register-least n named))
+-- The bytes that have to be put after a register fill eight with it: three are enough.
+pub register-put : (n : ℕ) (d e : List ℕ) (at to : ℕ) → n < 16 → PutWith (8 - length (registerPiece n)) d at (registerPiece n) e to → PutWith 3 d at (registerPiece n) e to
+register-put n d e at to named is-put rest enough = is-put rest (omega (arith, register-least n named))
 
-pub registers-laid : (rd rs rt rm at p q r s : ℕ) (d e f g h : List ℕ)
-    → LaidWith 3 d at (registerPiece rd) e p → LaidWith 3 e p (registerPiece rs) f q → LaidWith 3 f q (registerPiece rt) g r → LaidWith 3 g r (registerPiece rm) h s
-    → LaidWith 3 d at (registerPieces rd rs rt rm) h s
-registers-laid rd rs rt rm at p q r s d e f g h first second third last =
-    laid-more 3 3 d g h at r s (registerPiece rd ++ registerPiece rs ++ registerPiece rt) (registerPiece rm)
-    (laid-more 3 3 d f g at q r (registerPiece rd ++ registerPiece rs) (registerPiece rt)
-    (laid-more 3 3 d e f at p q (registerPiece rd) (registerPiece rs) first second (omega arith))
+pub registers-put : (rd rs rt rm at p q r s : ℕ) (d e f g h : List ℕ)
+    → PutWith 3 d at (registerPiece rd) e p → PutWith 3 e p (registerPiece rs) f q → PutWith 3 f q (registerPiece rt) g r → PutWith 3 g r (registerPiece rm) h s
+    → PutWith 3 d at (registerPieces rd rs rt rm) h s
+registers-put rd rs rt rm at p q r s d e f g h first second third last =
+    put-more 3 3 d g h at r s (registerPiece rd ++ registerPiece rs ++ registerPiece rt) (registerPiece rm)
+    (put-more 3 3 d f g at q r (registerPiece rd ++ registerPiece rs) (registerPiece rt)
+    (put-more 3 3 d e f at p q (registerPiece rd) (registerPiece rs) first second (omega arith))
     third (omega arith))
     last (omega arith)
 
 abbrev immediatePieces : ℕ → ℕ → List ℕ
 immediatePieces imm1 imm2 = signedDecimal imm1 ++ bytes ", " ++ signedDecimal imm2 ++ (LF ∷ [])
 
-pub immediates-laid : (imm1 imm2 at p q r : ℕ) (d e f g : List ℕ)
+pub immediates-put : (imm1 imm2 at p q r : ℕ) (d e f g : List ℕ)
     → p ≡ at + length (signedDecimal imm1) → q ≡ p + 2 → r ≡ q + length (signedDecimal imm2)
     → e ≡ put d at (signedDecimal imm1) → f ≡ put e p (bytes ", ") → g ≡ put f q (signedDecimal imm2)
     → set g r LF ≡ put d at (immediatePieces imm1 imm2)
-immediates-laid imm1 imm2 at p q r d e f g pe qe re first second third =
+immediates-put imm1 imm2 at p q r d e f g pe qe re first second third =
     store-after d g at r LF (signedDecimal imm1 ++ bytes ", " ++ signedDecimal imm2) (simp length-append (omega arith))
     (more d f g at q (signedDecimal imm1 ++ bytes ", ") _ (simp length-append (omega arith))
     (more d e f at p (signedDecimal imm1) _ pe first second)
@@ -130,12 +130,12 @@ line-is w f e =
     (let v = fieldsOf w in
     regroup (operationName (v .op)) (bytes " ") (bytes ", ") (registerName (v .rd)) (registerName (v .rs)) (registerName (v .rt)) (registerName (v .rm)) (signedDecimal (v .imm1)) (signedDecimal (v .imm2)) (LF ∷ []))
 
-pub line-laid : (w : ℕ) (v : Fields) (at p q : ℕ) (d e f g : List ℕ) → v ≡ fieldsOf w
-    → LaidWith (8 - length (operationPiece (v .op))) d at (operationPiece (v .op)) e p
-    → LaidWith 3 e p (registerPieces (v .rd) (v .rs) (v .rt) (v .rm)) f q
+pub line-put : (w : ℕ) (v : Fields) (at p q : ℕ) (d e f g : List ℕ) → v ≡ fieldsOf w
+    → PutWith (8 - length (operationPiece (v .op))) d at (operationPiece (v .op)) e p
+    → PutWith 3 e p (registerPieces (v .rd) (v .rs) (v .rt) (v .rm)) f q
     → g ≡ put f q (immediatePieces (v .imm1) (v .imm2))
     → g ≡ put d at (listedLine w ++ (LF ∷ []))
-line-laid w v at p q d e f g decoded name registers immediates =
+line-put w v at p q d e f g decoded name registers immediates =
     let last = immediatePieces (v .imm1) (v .imm2) in
     immediates
     ∙ registers last (simp length-append (omega arith))

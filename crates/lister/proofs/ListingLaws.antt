@@ -49,19 +49,19 @@ module _ (ws : List ℕ) (i : ℕ) where
   unfolding listing unlines
   length-end h = rw (drop-of-length-le ws h)
 
-  -- .. laid, ..
-  pub lay-turn : (out e : List ℕ) (at to : ℕ) → i < length ws → e ≡ put out at (listedLine (getD ws i 0) ++ (LF ∷ [])) → to ≡ at + length (listedLine (getD ws i 0)) + 1
+  -- .. put, ..
+  pub put-turn : (out e : List ℕ) (at to : ℕ) → i < length ws → e ≡ put out at (listedLine (getD ws i 0) ++ (LF ∷ [])) → to ≡ at + length (listedLine (getD ws i 0)) + 1
       → put e to (listing (drop (i + 1) ws)) ≡ put out at (listing (drop i ws))
-  lay-turn out e at to h q r =
+  put-turn out e at to h q r =
       let line = listedLine (getD ws i 0) ++ (LF ∷ []) in
       let rest = listing (drop (i + 1) ws) in
       let whole : listing (drop i ws) ≡ line ++ rest = rw (drop-word h) (listing-cons (getD ws i 0) (drop (i + 1) ws)) in
       let place : to ≡ at + length line = simp length-append (omega arith) in
       rw (q, whole, put-append out at line rest, place)
 
-  pub lay-end : (out : List ℕ) (at : ℕ) → length ws ≤ i → out ≡ put out at (listing (drop i ws))
+  pub put-end : (out : List ℕ) (at : ℕ) → length ws ≤ i → out ≡ put out at (listing (drop i ws))
   unfolding listing unlines
-  lay-end out at h = rw (drop-of-length-le ws h, put-nil)
+  put-end out at h = rw (drop-of-length-le ws h, put-nil)
 
   -- .. and its opcode asked.
   module _ (next : Outcome) (f : Fields) (inside : i < length ws) (e : f ≡ fieldsOf (getD ws i 0)) where

@@ -1,4 +1,4 @@
--- The pieces of a line that are names: their table, and how they are laid with more bytes than they have. Assumes nothing.
+-- The pieces of a line that are names: their table, and how they are put with more bytes than they have. Assumes nothing.
 use Prim.Native.Nat.{ℕ, _+_, _-_, _*_, _/_, _^_, _≤_, _<_}
 use mathlib.Core.Path.{_≡_, refl, sym, _∙_, ap}
 use mathlib.Core.Bool.{true}
@@ -18,7 +18,7 @@ use Rattle.text.proofs.HexWordLaws.{length-low, low-split}
 use Rattle.isa.specs.Operations.{operationName}
 use Rattle.isa.specs.Registers.{registerName}
 use Rattle.isa.proofs.NameLaws.{no-operation}
-use Rattle.lister.specs.Pieces.{operationPiece, registerPiece, pieceAt, heldLength, heldBytes, eightAt, Eights, NamePieces, LaidWith}
+use Rattle.lister.specs.Pieces.{operationPiece, registerPiece, pieceAt, heldLength, heldBytes, eightAt, Eights, NamePieces, PutWith}
 
 -- ---- places
 
@@ -46,15 +46,15 @@ piece-most n h = leb-true _ _ (below (λ k. leb (length (pieceAt k)) 7) 39 refl 
 pub pieces-rule : {s t : List ℕ} → Eights s t → allBelow (λ k. same (heldBytes (eightAt s (k * 8))) (pieceAt k)) 39 ≡ true → NamePieces t
 pieces-rule {s} {t} eights e n h = rw (eights .entry n h) (table-rule (λ k. heldBytes (eightAt s (k * 8))) pieceAt 39 e n h)
 
--- ---- a piece laid
+-- ---- a piece put
 
 -- The number v holds a piece of eight bytes at most.
 module _ (v : ℕ) (piece : List ℕ) (p : heldBytes v ≡ piece) where
   pub piece-size : heldLength v ≡ length piece
   piece-size = sym (length-low (heldLength v) v) ∙ ap length p
 
-  -- All eight bytes are laid, and then what stands after the piece, up to the eighth byte at least.
-  pub covered : (d e : List ℕ) (at to : ℕ) → length piece ≤ 8 → e ≡ put d at (lowBytes 8 v) → to ≡ at + length piece → LaidWith (8 - length piece) d at piece e to
+  -- All eight bytes are put, and then what stands after the piece, up to the eighth byte at least.
+  pub covered : (d e : List ℕ) (at to : ℕ) → length piece ≤ 8 → e ≡ put d at (lowBytes 8 v) → to ≡ at + length piece → PutWith (8 - length piece) d at piece e to
   covered d e at to few q r rest enough =
       let k = heldLength v in
       let size = piece-size in
@@ -64,8 +64,8 @@ module _ (v : ℕ) (piece : List ℕ) (p : heldBytes v ≡ piece) where
       let short : length more-bytes ≤ length rest = rw length-low (omega arith) in
       rw (q, all, r, put-append d at piece more-bytes, put-over (put d at piece) (at + length piece) more-bytes rest short, ← put-append d at piece rest)
 
--- A piece laid after another is one with it.
-pub laid-more : (m n : ℕ) (d e f : List ℕ) (at p q : ℕ) (xs ys : List ℕ) → LaidWith m d at xs e p → LaidWith n e p ys f q → m ≤ length ys + n
-    → LaidWith n d at (xs ++ ys) f q
-laid-more m n d e f at p q xs ys first second h rest enough =
+-- A piece put after another is one with it.
+pub put-more : (m n : ℕ) (d e f : List ℕ) (at p q : ℕ) (xs ys : List ℕ) → PutWith m d at xs e p → PutWith n e p ys f q → m ≤ length ys + n
+    → PutWith n d at (xs ++ ys) f q
+put-more m n d e f at p q xs ys first second h rest enough =
     second rest enough ∙ first (ys ++ rest) (simp length-append (omega arith)) ∙ ap (put d at) (sym (append-assoc xs ys rest))

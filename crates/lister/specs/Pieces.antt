@@ -1,4 +1,4 @@
--- The pieces of a line that are names, and the numbers that hold them (for the code, which lays a piece in one store).
+-- The pieces of a line that are names, and the numbers that hold them (for the code, which puts a piece in one store).
 use Prim.Native.Nat.{ℕ, _+_, _-_, _*_, _/_, _%_, _^_, _≤_, _<_}
 use mathlib.Core.Path.{_≡_}
 use mathlib.Core.Bool.{cond}
@@ -36,7 +36,7 @@ heldLength v = v / 2 ^ 56 % 2 ^ 4
 abbrev pub heldBytes : ℕ → List ℕ
 heldBytes v = lowBytes (heldLength v) v
 
--- Eight bytes from a place on as a number, the first the lowest.
+-- Four bytes from a place on as a number, the first the lowest; and eight.
 abbrev pub fourAt : List ℕ → ℕ → ℕ
 fourAt s at = getD s at 0 + getD s (at + 1) 0 * 2 ^ 8 + getD s (at + 2) 0 * 2 ^ 16 + getD s (at + 3) 0 * 2 ^ 24
 
@@ -51,6 +51,6 @@ pub record Eights (s t : List ℕ) : Type 0 where
 abbrev pub NamePieces : List ℕ → Type 0
 NamePieces t = (n : ℕ) → n < 39 → heldBytes (getD t n 0) ≡ pieceAt n
 
--- xs was laid at a place of d, which is e then, and other bytes after it: with any `least` bytes or more laid at `to` it is as if both were laid.
-abbrev pub LaidWith : (least : ℕ) (d : List ℕ) (at : ℕ) (xs e : List ℕ) (to : ℕ) → Type 0
-LaidWith least d at xs e to = (rest : List ℕ) → least ≤ length rest → put e to rest ≡ put d at (xs ++ rest)
+-- xs was put at a place of d, which is e then, and other bytes after it: with any `least` bytes or more put at `to` it is as if both were put.
+abbrev pub PutWith : (least : ℕ) (d : List ℕ) (at : ℕ) (xs e : List ℕ) (to : ℕ) → Type 0
+PutWith least d at xs e to = (rest : List ℕ) → least ≤ length rest → put e to rest ≡ put d at (xs ++ rest)

@@ -10,7 +10,7 @@ ghost use lib.ListN.{length};
 ghost use lib.Signed.{mag};
 ghost use mir.Syntax.{w32};
 ghost use mir.Val.{toZ};
-ghost use Rattle.text.specs.Place.{put};
+ghost use Rattle.text.specs.Place.{Puts};
 ghost use Rattle.isa.specs.Word.{signExtended};
 ghost use Rattle.lister.specs.Listing.{signedDecimal};
 ghost use Rattle.lister.specs.Sign.{signOf};
@@ -39,10 +39,10 @@ fn sign_length(z: i32) -> usize
     if z < 0 { 1 } else { 0 }
 }
 
-// Lays the sign of a number at a place and returns the place after it.
+// Puts the sign of a number at a place and returns the place after it.
 fn put_sign(out: &mut [u8], at: usize, z: i32) -> usize
     requires { ⌜ (mag z < 2 ^ 12) × (at + length (signOf z) ≤ length (now out)) ⌝ }
-    ensures { λ r. ⌜ (now (out .exit) ≡ put (now (out .entry)) at (signOf z)) × (r ≡ at + length (signOf z)) ⌝ }
+    ensures { λ r. ⌜ Puts (now (out .entry)) at (signOf z) r (now (out .exit)) ⌝ }
 {
     if z < 0 {
         out[at] = b'-';
@@ -60,10 +60,10 @@ pub fn immediate_length(immediate: u32) -> usize
     sign_length(z) + digit_count(magnitude(z) as u64)
 }
 
-// Lays an immediate as a signed decimal at a place and returns the place after it.
+// Puts an immediate as a signed decimal at a place and returns the place after it.
 pub fn put_immediate(out: &mut [u8], at: usize, immediate: u32) -> usize
     requires { ⌜ (immediate < 2 ^ 12) × (at + length (signedDecimal immediate) ≤ length (now out)) ⌝ }
-    ensures { λ r. ⌜ (now (out .exit) ≡ put (now (out .entry)) at (signedDecimal immediate)) × (r ≡ at + length (signedDecimal immediate)) ⌝ }
+    ensures { λ r. ⌜ Puts (now (out .entry)) at (signedDecimal immediate) r (now (out .exit)) ⌝ }
 {
     let z = signed_immediate(immediate);
     let digits_at = put_sign(out, at, z);

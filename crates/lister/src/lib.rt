@@ -10,7 +10,7 @@ mod used;
 
 use crate::listing::first_unknown;
 use crate::listing::has_room;
-use crate::listing::lay_lines;
+use crate::listing::put_lines;
 pub use used::used_words;
 ghost use Rattle.lister.specs.Calls.{TextListed};
 
@@ -43,5 +43,5 @@ pub fn list(words: &[u64], text: &mut [u8]) -> Listed
     if !has_room(words, text.len()) {
         return Listed::NoRoom;
     }
-    Listed::Bytes(lay_lines(words, text))
+    Listed::Bytes(put_lines(words, text))
 }

@@ -1,4 +1,4 @@
-// One line of the listing, laid piece by piece.
+// One line of the listing, put piece by piece.
 use crate::immediates::put_immediate;
 use crate::pieces::operation_place;
 use crate::pieces::put_piece;
@@ -14,9 +14,9 @@ ghost use Rattle.text.specs.Bytes.{bytes};
 ghost use Rattle.text.specs.Lines.{LF as lf};
 ghost use Rattle.text.specs.Place.{put};
 ghost use Rattle.lister.specs.Listing.{signedDecimal, listedLine};
-ghost use Rattle.lister.specs.Pieces.{registerPiece, registerPieces, NamePieces, LaidWith};
+ghost use Rattle.lister.specs.Pieces.{registerPiece, registerPieces, NamePieces, PutWith};
 
-// Lays a comma and a blank at a place and returns the place after them.
+// Puts a comma and a blank at a place and returns the place after them.
 fn put_comma(out: &mut [u8], at: usize) -> usize
     requires { ⌜ at + 2 ≤ length (now out) ⌝ }
     ensures { λ r. ⌜ (now (out .exit) ≡ put (now (out .entry)) at (bytes ", ")) × (r ≡ at + 2) ⌝ }
@@ -26,7 +26,7 @@ fn put_comma(out: &mut [u8], at: usize) -> usize
     at + 2
 }
 
-// Lays four registers, a comma and a blank after each, and returns the place after them; three bytes at least have to be laid there next.
+// Puts four registers, a comma and a blank after each, and returns the place after them; three bytes at least have to be put there next.
 fn put_registers(
     out: &mut [u8],
     at: usize,
@@ -37,7 +37,7 @@ fn put_registers(
     table: &[u64; 39],
 ) -> usize
     requires { ⌜ (rd < 16) × (rs < 16) × (rt < 16) × (rm < 16) × (at + length (registerPieces rd rs rt rm) + 3 ≤ length (now out)) × NamePieces (now table) ⌝ }
-    ensures { λ r. ⌜ LaidWith 3 (now (out .entry)) at (registerPieces rd rs rt rm) (now (out .exit)) r × (r ≡ at + length (registerPieces rd rs rt rm)) ⌝ }
+    ensures { λ r. ⌜ PutWith 3 (now (out .entry)) at (registerPieces rd rs rt rm) (now (out .exit)) r × (r ≡ at + length (registerPieces rd rs rt rm)) ⌝ }
 {
     let rs_at = put_register(out, at, rd, table);
     let rt_at = put_register(out, rs_at, rs, table);
@@ -45,15 +45,15 @@ fn put_registers(
     put_register(out, rm_at, rm, table)
 }
 
-// Lays a register, a comma and a blank, and returns the place after them; three bytes at least have to be laid there next.
+// Puts a register, a comma and a blank, and returns the place after them; three bytes at least have to be put there next.
 fn put_register(out: &mut [u8], at: usize, n: usize, table: &[u64; 39]) -> usize
     requires { ⌜ (n < 16) × (at + length (registerPiece n) + 3 ≤ length (now out)) × NamePieces (now table) ⌝ }
-    ensures { λ r. ⌜ LaidWith 3 (now (out .entry)) at (registerPiece n) (now (out .exit)) r × (r ≡ at + length (registerPiece n)) ⌝ }
+    ensures { λ r. ⌜ PutWith 3 (now (out .entry)) at (registerPiece n) (now (out .exit)) r × (r ≡ at + length (registerPiece n)) ⌝ }
 {
     put_piece(out, at, register_place(n), table)
 }
 
-// Lays two immediates, a comma with its blank between them and an LF after them, and returns the place after it.
+// Puts two immediates, a comma with its blank between them and an LF after them, and returns the place after it.
 fn put_immediates(out: &mut [u8], at: usize, imm1: u32, imm2: u32) -> usize
     requires { ⌜ (imm1 < 2 ^ 12) × ((imm2 < 2 ^ 12) × (at + length (signedDecimal imm1) + length (signedDecimal imm2) + 3 ≤ length (now out))) ⌝ }
     ensures { λ r. ⌜ (now (out .exit) ≡ put (now (out .entry)) at (signedDecimal imm1 ++ bytes ", " ++ signedDecimal imm2 ++ (lf ∷ []))) × (r ≡ at + length (signedDecimal imm1) + length (signedDecimal imm2) + 3) ⌝ }
@@ -65,7 +65,7 @@ fn put_immediates(out: &mut [u8], at: usize, imm1: u32, imm2: u32) -> usize
     end + 1
 }
 
-// Lays the line of a word with its LF at a place and returns the place after it.
+// Puts the line of a word with its LF at a place and returns the place after it.
 pub fn put_line(out: &mut [u8], at: usize, word: u64, table: &[u64; 39]) -> usize
     requires { ⌜ (at + length (listedLine word) + 1 ≤ length (now out)) × NamePieces (now table) ⌝ }
     ensures { λ r. ⌜ (now (out .exit) ≡ put (now (out .entry)) at (listedLine word ++ (lf ∷ []))) × (r ≡ at + length (listedLine word) + 1) ⌝ }

@@ -63,8 +63,8 @@ pub fn has_room(words: &[u64], room: usize) -> bool
     text_length(words) <= room
 }
 
-// Lays the text of the words at the front of `out` and returns the place after it.
-pub fn lay_lines(words: &[u64], out: &mut [u8]) -> usize
+// Puts the text of the words at the front of `out` and returns the place after it.
+pub fn put_lines(words: &[u64], out: &mut [u8]) -> usize
     requires { ⌜ length (listing (now words)) ≤ length (now out) ⌝ }
     ensures { λ r. ⌜ (now (out .exit) ≡ put (now (out .entry)) 0 (listing (now (words .entry)))) × (r ≡ length (listing (now (words .entry)))) ⌝ }
 {

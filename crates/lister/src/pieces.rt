@@ -3,7 +3,7 @@ use text::hex_words::put_eight;
 ghost use mathlib.Core.Path.{_≡_};
 ghost use Prim.Native.Nat.{_+_, _-_, _≤_, _<_};
 ghost use lib.ListN.{length};
-ghost use Rattle.lister.specs.Pieces.{operationPiece, registerPiece, pieceAt, heldLength, NamePieces, LaidWith};
+ghost use Rattle.lister.specs.Pieces.{operationPiece, registerPiece, pieceAt, heldLength, NamePieces, PutWith};
 
 // The place of the piece of an opcode that names no operation.
 const NO_OPERATION: u32 = 22;
@@ -45,11 +45,11 @@ fn held_length(v: u64) -> usize
     (v / 0x100_0000_0000_0000 % 16) as usize
 }
 
-// Lays the piece at a place of the table and returns the place after it. All eight bytes of its number are laid: what is laid next has to reach
+// Puts the piece at a place of the table and returns the place after it. All eight bytes of its number are put: what is put next has to reach
 // over them.
 pub fn put_piece(out: &mut [u8], at: usize, n: usize, table: &[u64; 39]) -> usize
     requires { ⌜ (at + 8 ≤ length (now out)) × (n < 39) × NamePieces (now table) ⌝ }
-    ensures { λ r. ⌜ LaidWith (8 - length (pieceAt n)) (now (out .entry)) at (pieceAt n) (now (out .exit)) r × (r ≡ at + length (pieceAt n)) ⌝ }
+    ensures { λ r. ⌜ PutWith (8 - length (pieceAt n)) (now (out .entry)) at (pieceAt n) (now (out .exit)) r × (r ≡ at + length (pieceAt n)) ⌝ }
 {
     let v = table[n];
     put_eight(out, at, v);

@@ -8,7 +8,7 @@ ghost use Rattle.lister.specs.Pieces.{fourAt, eightAt, Eights, NamePiece
 const PIECES: [u8; 312] =
     *b"add    4sub    4mac    4and    4or     3xor    4sll    4sra    4srl    4beq    4bne    4blt    4bgt    4ble    4bge    4jal    4lw     3sw     3reti   5in     3out    4halt   5       1$zero, 7$imm1, 7$imm2, 7$v0,   5$a0,   5$a1,   5$a2,   5$t0,   5$t1,   5$t2,   5$s0,   5$s1,   5$s2,   5$gp,   5$sp,   5$ra,   5";
 
-// The table of the pieces: each is a number, so that it is laid in one store.
+// The table of the pieces: each is a number, so that it is put in one store.
 pub fn name_pieces() -> [u64; 39]
     ensures { λ r. ⌜ NamePieces r ⌝ }
 {

@@ -1,5 +1,5 @@
 // How far a long run is.
-use console::append;
+use console::put_if_room;
 use console::put_number;
 use console::tell;
 
@@ -17,6 +17,6 @@ pub fn tell_progress(age: u64, cycles: u64) {
 fn tell_age(age: u64) {
     let mut line = [0u8; 64];
     let words_at = put_number(&mut line, 0, age as usize);
-    let end = append(&mut line, words_at, b" cycles\n");
+    let end = put_if_room(&mut line, words_at, b" cycles\n");
     tell(&line[..end]);
 }

@@ -67,21 +67,16 @@ pub fn run_on(
         let piece = run_piece(state, image, memory, disk, frame, irq2, left, &mut log);
         let bytes = piece.bytes;
         let answer = piece.answer;
+        let is_full = is_log_full(answer);
         let is_sent = send(&log[..bytes], to);
         state = piece.state;
         left -= piece.cycles;
-        if !is_sent {
+        let made = budget - left;
+        if !(is_sent & is_full) {
             return RunEnd {
                 state: state,
-                cycles: budget - left,
-                written: false,
-            };
-        }
-        if !is_log_full(answer) {
-            return RunEnd {
-                state: state,
-                cycles: budget - left,
-                written: true,
+                cycles: made,
+                written: is_sent,
             };
         }
         tell_progress(state.core.age, piece.cycles);

@@ -22,10 +22,10 @@ use Rattle.machine.specs.Interrupts.{isRequested, irq2Raised, interrupte
 use Rattle.machine.specs.declared.Operands.{Operands}
 use Rattle.machine.specs.Execution.{fetched, operandsOf, address, isFree, isReadOrWrite, onward, jumped, ended, copied, begun, attempted, commanded, painted, outputted, executed, fetchedAndExecuted}
 use Rattle.machine.specs.Cycle.{acceptsAtFetch, atFetch, timerStepped, diskStepped, counted, stepped}
-use Rattle.machine.specs.Soundness.{keptBits, SoundTo, Sound}
+use Rattle.machine.specs.Soundness.{fieldBits, SoundTo, Sound}
 use Rattle.words.proofs.FitLaws.{wrapped, calculated-lt}
 use Rattle.text.proofs.RangeLaws.{holds-after}
-use Rattle.machine.proofs.SoundParts.{sound-io, sound-core, sound-set, sound-core-to, kept-le, sign-lt}
+use Rattle.machine.proofs.SoundParts.{sound-io, sound-core, sound-set, sound-core-to, field-bits-le, sign-lt}
 use Rattle.machine.proofs.DiskLaws.{command-free, left-at-fetch, left-kept, accepted-left, busy-left}
 use Rattle.machine.proofs.Choice.{either}
 
@@ -76,7 +76,7 @@ module _ (limit : ℕ) where
       go true = record { record-is = s .record-is }
       go false = record { record-is = sound-set limit (m .core) (m .regs) (m .io) (s .record-is) (n - 3) x h }
 
-  io-put : (m : Machine) (n x : ℕ) → x < 2 ^ keptBits n → (n ≡ diskcmd → ⊥) → (n ≡ diskstatus → ⊥) → SoundMachine limit m → SoundMachine limit (putIo n x m)
+  io-put : (m : Machine) (n x : ℕ) → x < 2 ^ fieldBits n → (n ≡ diskcmd → ⊥) → (n ≡ diskstatus → ⊥) → SoundMachine limit m → SoundMachine limit (putIo n x m)
   io-put m n x h a b s = record { record-is = sound-io limit (m .core) (m .regs) (m .io) (s .record-is) n x h a b }
 
   went-on : (m : Machine) → SoundMachine limit m → SoundMachine limit (onward m)
@@ -87,7 +87,7 @@ module _ (limit : ℕ) where
 
   -- What an I/O register holds is a word.
   io-word : (m : Machine) (n : ℕ) → SoundMachine limit m → ioAt n m < 2 ^ 32
-  io-word m n s = lt-of-lt-of-le (s .record-is .fitting n) (kept-le n)
+  io-word m n s = lt-of-lt-of-le (s .record-is .fitting n) (field-bits-le n)
 
   -- ---- steps 1 and 2
 
@@ -131,8 +131,8 @@ module _ (limit : ℕ) where
                   registers = r .registers;
                   all = simp length-set (r .all);
                   fitting =
-                      holds-after (set (d .io) diskcmd low) diskstatus 1 (λ n v. v < 2 ^ keptBits n)
-                      (holds-after (d .io) diskcmd low (λ n v. v < 2 ^ keptBits n) (r .fitting) (omega arith)) (omega arith);
+                      holds-after (set (d .io) diskcmd low) diskstatus 1 (λ n v. v < 2 ^ fieldBits n)
+                      (holds-after (d .io) diskcmd low (λ n v. v < 2 ^ fieldBits n) (r .fitting) (omega arith)) (omega arith);
                   disk =
                       record {
                         busy =
@@ -160,7 +160,7 @@ module _ (limit : ℕ) where
               thirteen = r .thirteen;
               registers = r .registers;
               all = length-set (m .io) diskcmd 0 ∙ r .all;
-              fitting = holds-after (m .io) diskcmd 0 (λ n v. v < 2 ^ keptBits n) (r .fitting) (omega arith);
+              fitting = holds-after (m .io) diskcmd 0 (λ n v. v < 2 ^ fieldBits n) (r .fitting) (omega arith);
               disk =
                   record {
                     busy = λ h. absurd (let one = r .disk .busy h .0 in omega arith);
@@ -255,8 +255,8 @@ module _ (limit : ℕ) where
                   registers = r .registers;
                   all = length-freed (m .io) ∙ r .all;
                   fitting =
-                      holds-after (set (set (m .io) diskcmd 0) diskstatus 0) irq1status 1 (λ n v. v < 2 ^ keptBits n)
-                      (holds-after (set (m .io) diskcmd 0) diskstatus 0 (λ n v. v < 2 ^ keptBits n) (holds-after (m .io) diskcmd 0 (λ n v. v < 2 ^ keptBits n) (r .fitting) (omega arith)) (omega arith))
+                      holds-after (set (set (m .io) diskcmd 0) diskstatus 0) irq1status 1 (λ n v. v < 2 ^ fieldBits n)
+                      (holds-after (set (m .io) diskcmd 0) diskstatus 0 (λ n v. v < 2 ^ fieldBits n) (holds-after (m .io) diskcmd 0 (λ n v. v < 2 ^ fieldBits n) (r .fitting) (omega arith)) (omega arith))
                       (omega arith);
                   disk = record { busy = λ h. absurd (omega arith); free = λ q. (gone .1, gone .0) };
                 };
@@ -320,7 +320,7 @@ sound-fresh =
       thirteen = refl;
       registers = λ n. rw (all-zero 13 n) (omega arith);
       all = refl;
-      fitting = λ n. rw (all-zero 23 n) (one-le-pow (keptBits n) 2 (omega arith));
+      fitting = λ n. rw (all-zero 23 n) (one-le-pow (fieldBits n) 2 (omega arith));
       disk = record { busy = λ h. absurd (not-suc-le-zero h); free = λ e. (refl, refl) };
     }
 

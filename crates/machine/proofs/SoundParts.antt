@@ -16,20 +16,20 @@ use Rattle.isa.specs.Word.{signExtended}
 use Rattle.isa.proofs.IoLaws.{no-bits-above}
 use Rattle.machine.specs.declared.Core.{Core}
 use Rattle.machine.specs.State.{registers}
-use Rattle.machine.specs.Soundness.{keptBits, SoundCore, SoundTo}
+use Rattle.machine.specs.Soundness.{fieldBits, SoundCore, SoundTo}
 
 -- ---- one I/O register set
 
 module _ (limit : ℕ) (c : Core) (regs io : List ℕ) (s : SoundTo limit c regs io) where
   -- A register that is not the disk's takes a value that fits.
-  pub sound-io : (n x : ℕ) → x < 2 ^ keptBits n → (n ≡ diskcmd → ⊥) → (n ≡ diskstatus → ⊥) → SoundTo limit c regs (set io n x)
+  pub sound-io : (n x : ℕ) → x < 2 ^ fieldBits n → (n ≡ diskcmd → ⊥) → (n ≡ diskstatus → ⊥) → SoundTo limit c regs (set io n x)
   sound-io n x fits a b =
       record {
         core = s .core;
         thirteen = s .thirteen;
         registers = s .registers;
         all = length-set io n x ∙ s .all;
-        fitting = holds-after io n x (λ k v. v < 2 ^ keptBits k) (s .fitting) fits;
+        fitting = holds-after io n x (λ k v. v < 2 ^ fieldBits k) (s .fitting) fits;
         disk =
             record {
               busy = rw (getD-set-other io n diskstatus x 0 (λ e. b (sym e)), getD-set-other io n diskcmd x 0 (λ e. a (sym e))) (s .disk .busy);
@@ -68,8 +68,8 @@ bits-le n = go (leb n 22) refl
     go true e = let low = leb-true n 22 e in leb-true _ _ (below (λ k. leb (ioBits k) 32) 23 refl n (omega arith))
     go false e = let high = leb-false n 22 e in rw (no-bits-above n (omega arith)) (omega arith)
 
-pub kept-le : (n : ℕ) → 2 ^ keptBits n ≤ 2 ^ 32
-kept-le n = go (eqb n monitorcmd)
+pub field-bits-le : (n : ℕ) → 2 ^ fieldBits n ≤ 2 ^ 32
+field-bits-le n = go (eqb n monitorcmd)
   where
     go : (t : Bool) → 2 ^ cond t 0 (ioBits n) ≤ 2 ^ 32
     go true = omega arith

@@ -38,8 +38,7 @@ stepped image hit m = counted (diskStepped (m .core .left) (timerStepped (fetche
 abbrev pub cycle : List ℕ → List ℕ → Machine → Machine
 cycle image irq2 m = stepped image (isIn (m .core .age) irq2) m
 
--- "A disk command is accepted in cycle c when an out in it gives diskcmd low bits 1 or 2, diskstatus being 0 and diskbuffer at most 3968": of
--- an instruction that finds the machine so at step 3, and of the cycle that m makes next.
+-- The operation is `out`.
 abbrev pub isOutput : Operation → Bool
 isOutput (calculate k) = false
 isOutput (branch k) = false
@@ -52,6 +51,8 @@ isOutput output = true
 isOutput halt = false
 isOutput unknown = false
 
+-- "A disk command is accepted in cycle c when an out in it gives diskcmd low bits 1 or 2, diskstatus being 0 and diskbuffer at most 3968": of
+-- an instruction that finds the machine so at step 3, and of the cycle that m makes next.
 unfoldable pub isCommand : Operation → Operands → Machine → Bool
 isCommand k o m = isOutput k && eqb (address o) diskcmd && isReadOrWrite (o .rm % 4) && isFree m && hasRoom m
 

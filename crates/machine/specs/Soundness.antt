@@ -9,13 +9,13 @@ use lib.ListN.{length, getD}
 use Rattle.isa.specs.Registers.{ioBits, diskcmd, diskstatus, monitorcmd}
 use Rattle.machine.specs.declared.Core.{Core}
 
--- The bits that a record keeps of an I/O register: its own, but none of monitorcmd, which "always holds 0".
-abbrev pub keptBits : ℕ → ℕ
-keptBits n = cond (eqb n monitorcmd) 0 (ioBits n)
+-- The bits of an I/O register's field in a record: the register's own, but none for monitorcmd, which "always holds 0".
+abbrev pub fieldBits : ℕ → ℕ
+fieldBits n = cond (eqb n monitorcmd) 0 (ioBits n)
 
 -- Each I/O register fits.
 abbrev pub FittingIo : List ℕ → Type 0
-FittingIo io = (n : ℕ) → getD io n 0 < 2 ^ keptBits n
+FittingIo io = (n : ℕ) → getD io n 0 < 2 ^ fieldBits n
 
 -- The scalars, the age below a limit.
 pub record SoundCore (limit : ℕ) (c : Core) : Type 0 where

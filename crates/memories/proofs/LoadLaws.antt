@@ -6,7 +6,6 @@ use mathlib.Core.List.{List, [], _∷_}
 use native.Mathlib.Omega.{arith}
 use lib.Dec.{eqb, leb, ltb}
 use lib.ListN.{length, take}
-use lib.Seq.{take-all, length-take-le}
 use borrow.Author.Tests.{eqb-true, leb-true}
 use Rattle.text.specs.declared.Outcome.{Outcome}
 use Rattle.text.specs.Questions.{accepted, firstBad}
@@ -21,14 +20,14 @@ use Rattle.files.specs.Loaded.{FileLoaded}
 use Rattle.files.specs.Answers.{fileReadOutcome, cyclesReadOutcome}
 use Rattle.files.specs.Promises.{MemoryRead, Irq2Read}
 use Rattle.files.proofs.CycleLaws.{are-cycles}
-use Rattle.files.proofs.CutLaws.{cut-read}
+use Rattle.files.proofs.Irq2CutLaws.{cut-cycles}
 use Rattle.files.proofs.LoadedLaws.{counted}
 use Rattle.memories.specs.declared.Count.{Count}
 use Rattle.memories.specs.declared.Count.the-variants.{Of, None}
 use Rattle.memories.specs.declared.FileLoad.{FileLoad}
 use Rattle.memories.specs.declared.FileLoad.the-variants.{Read, Unread}
-use Rattle.memories.specs.Loading.{FrontRead, LoadedFile, isLoaded, Loaded}
-use Rattle.memories.specs.Cycles.{CyclesFile, LoadedCycles, countOf, RiseIn}
+use Rattle.memories.specs.Loading.{LoadedFile, isLoaded, Loaded}
+use Rattle.memories.specs.Cycles.{CyclesFile, FrontCycles, LoadedCycles, countOf, RiseIn}
 
 -- ---- a memory file
 
@@ -52,30 +51,6 @@ read-accepted k isRight n text good =
 pub part-most : (n : ℕ) → isPartLength n ≡ true → n ≤ diskWords
 part-most n e = leb-true n diskWords (and-right (eqb (n % sectorWords) 0 && leb sectorWords n) (leb n diskWords) e)
 
-module _ {k : ℕ} {isRight : ℕ → Bool} {before after : List ℕ} where
-  -- Of a memory of a wrong length every text is refused.
-  wrong-read : (a b : List ℕ) {r : FileRead} → isRight (length before) ≡ false → MemoryRead k isRight a before r after → MemoryRead k isRight b before r after
-  unfolding readOutcome
-  wrong-read a b wrong read = record { answer = read .answer ∙ rw wrong; words = rw wrong at (read .words) ∙ rw wrong }
-
-  -- Who reads the front of a text has read the text, ..
-  pub front-read : (buffer : List ℕ) (n : ℕ) {r : FileRead} {t : Outcome} → MemoryRead k isRight (take n buffer) before r after → t ≡ fileReadOutcome r
-      → (isRight (length before) ≡ true → length before * (k + 1) < length buffer) → FrontRead k isRight buffer n t before after
-  front-read buffer n {r} read says long whole front =
-      let all = go (isRight (length before)) refl in
-      let outcome = says ∙ all .answer in
-      record { outcome = outcome; words = rw outcome (all .words) }
-    where
-      go : (b : Bool) → isRight (length before) ≡ b → MemoryRead k isRight whole before r after
-      go true e = cut-read k isRight (length buffer) whole before r after (long e) (rw front at read)
-      go false e = wrong-read (take n buffer) whole e read
-
-  -- .. which need not be named.
-  pub file-read : (buffer : List ℕ) (n : ℕ) {t : Outcome} → n ≤ length buffer → FrontRead k isRight buffer n t before after → FileLoaded k isRight t before after
-  file-read buffer n h read =
-      let text = read (take n buffer) (sym (take-all (length buffer) (take n buffer) (rw (length-take-le n buffer h) h))) in
-      record { text = take n buffer; outcome = text .outcome; words = text .words }
-
 module _ (k : ℕ) (isRight : ℕ → Bool) (before after : List ℕ) where
   pub loaded : (l : FileLoad) {r : Bool} → LoadedFile k isRight l before after → r ≡ isLoaded l → Loaded k isRight r before after
   loaded (Read t) file e = rw e (go (eqb (t .number) 0) refl)
@@ -91,7 +66,7 @@ module _ (k : ℕ) (isRight : ℕ → Bool) (before after : List ℕ) where
 -- ---- the irq2 file
 
 module _ {text before after : List ℕ} where
-  pub cycles-file : {a : CyclesRead} {t : Outcome} → Irq2Read text before a after → t ≡ cyclesReadOutcome a → CyclesFile text t before after
+  cycles-file : {a : CyclesRead} {t : Outcome} → Irq2Read text before a after → t ≡ cyclesReadOutcome a → CyclesFile text t before after
   cycles-file {a} {t} read says =
       let outcome = says ∙ read .answer in
       record {
@@ -100,6 +75,15 @@ module _ {text before after : List ℕ} where
         rise = are-cycles text before a after read t says;
         counted = λ none. says ∙ counted a (ap (λ (u : Outcome). u .number) (sym says) ∙ none) ∙ ap (λ (u : Outcome). accepted (u .count)) (sym says);
       }
+
+-- Who reads the front of a text has read the text.
+pub front-cycles : (buffer : List ℕ) (n : ℕ) {before after : List ℕ} {a : CyclesRead} {t : Outcome} → 229376 < length buffer
+    → Irq2Read (take n buffer) before a after → t ≡ cyclesReadOutcome a → FrontCycles buffer n t before after
+front-cycles buffer n {before} {after} {a} long read says =
+    record {
+      front = cycles-file read says;
+      whole = λ few text front. cycles-file (cut-cycles (length buffer) text before a after (omega arith) (rw front at read)) says;
+    }
 
 pub rise-in : (before after : List ℕ) (l : FileLoad) {r : Count} → LoadedCycles l before after → r ≡ countOf l → RiseIn r before after
 rise-in before after (Read t) file e = rw e (go (eqb (t .number) 0) refl)

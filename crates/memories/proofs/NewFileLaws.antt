@@ -6,17 +6,14 @@ use mathlib.Core.List.{List}
 use lib.Dec.{eqb}
 use Rattle.text.specs.declared.Outcome.{Outcome}
 use Rattle.console.specs.declared.Writing.{Writing}
-use Rattle.console.specs.Writings.{noFile, Begun}
+use Rattle.console.specs.Writings.{Begun}
 use Rattle.files.specs.declared.Written.{Written}
 use Rattle.files.specs.MemoryFile.{writeOutcome}
 use Rattle.files.specs.Answers.{writtenOutcome}
 use Rattle.files.specs.Promises.{TextWritten}
 use Rattle.memories.specs.NewFiles.{NewWritten}
 
--- Nothing is written of what is refused; of what is not, a file is begun.
-pub none-written : {w : Writing} (isRight : Bool) → w ≡ noFile → NewWritten isRight w
-none-written isRight e = record { begun = λ _. e; refused = λ _. e }
-
+-- Of what is not refused, a file is begun.
 pub all-written : {w : Writing} {isRight : Bool} → isRight ≡ true → Begun w → NewWritten isRight w
 all-written right begun = record { begun = begun; refused = λ wrong. absurd (true≢false (sym right ∙ wrong)) }
 

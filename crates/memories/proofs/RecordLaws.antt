@@ -1,11 +1,11 @@
 -- The record that reading hands back is sound, and what is refused is not. Assumes nothing.
-use Prim.Native.Nat.{ℕ}
+use Prim.Native.Nat.{ℕ, _≤_, _<_}
 use mathlib.Core.Path.{_≡_, refl, sym, _∙_, ap}
 use mathlib.Core.Bool.{Bool, true, false}
 use mathlib.Core.List.{List, [], _∷_}
 use native.Mathlib.Omega.{arith}
 use lib.Dec.{eqb}
-use lib.ListN.{length, getD}
+use lib.ListN.{length, take, getD}
 use borrow.Author.Tests.{eqb-true, eq-eqb, ne-eqb}
 use Rattle.text.specs.declared.Outcome.{Outcome}
 use Rattle.text.specs.Questions.{accepted, firstNo, unlessRefused}
@@ -15,25 +15,37 @@ use Rattle.machine.specs.Soundness.{Sound}
 use Rattle.saved.specs.Sound.{isSound}
 use Rattle.saved.specs.Layout.{edition, recordBytes, recordOf, savedFields}
 use Rattle.saved.specs.Calls.{freshRecord, saveOutcome, loadOutcome, loadRecord}
-use Rattle.saved.specs.declared.LoadAnswer.{LoadAnswer}
-use Rattle.saved.specs.Answers.{loadedOutcome}
 use Rattle.saved.proofs.TripLaws.{load-sound}
 use Rattle.memories.specs.declared.RecordRead.{RecordRead}
-use Rattle.memories.specs.Records.{ReadFrom, LoadedIf, SoundRead, FreshRead}
+use Rattle.memories.specs.Records.{ReadFrom, FrontLoaded, LoadedIf, SoundRead, FreshRead}
+use Rattle.files.proofs.FrontLaws.{front-self, by-front}
 
 -- ---- a record that is read
 
 -- From its bytes: read, ..
-module _ (bytes : List ℕ) (a : LoadAnswer) (outcome : loadedOutcome a ≡ loadOutcome bytes) where
-  pub record-read : (state : Record) → state ≡ loadRecord bytes → loadedOutcome a .number ≡ 0 → ReadFrom bytes (record { state = state; «is_read» = true })
+module _ (bytes : List ℕ) {t : Outcome} (outcome : t ≡ loadOutcome bytes) where
+  pub record-read : (state : Record) → state ≡ loadRecord bytes → t .number ≡ 0 → ReadFrom bytes (record { state = state; «is_read» = true })
   record-read state is none =
       record { read = sym (eq-eqb (loadOutcome bytes .number) 0 (ap (λ (t : Outcome). t .number) (sym outcome) ∙ none)); is = is; sound = load-sound state bytes is }
 
   -- .. or refused.
-  pub record-refused : (r : RecordRead) → FreshRead false r → (loadedOutcome a .number ≡ 0 → ⊥) → ReadFrom bytes r
+  pub record-refused : (r : RecordRead) → FreshRead false r → (t .number ≡ 0 → ⊥) → ReadFrom bytes r
   record-refused r fresh some =
       let no = ne-eqb (loadOutcome bytes .number) 0 (λ e. some (ap (λ (t : Outcome). t .number) outcome ∙ e)) in
       record { read = fresh .read ∙ sym no; is = fresh .state ∙ rw no; sound = fresh .sound }
+
+-- Files of other lengths than a record's are refused alike, whatever their bytes, ..
+wrong-lengths : (a b : List ℕ) {r : RecordRead} → (length a ≡ recordBytes → ⊥) → (length b ≡ recordBytes → ⊥) → ReadFrom a r → ReadFrom b r
+wrong-lengths a b wrong-a wrong-b from =
+    let no-a = ne-eqb (length a) recordBytes wrong-a in
+    let no-b = ne-eqb (length b) recordBytes wrong-b in
+    record { read = rw no-a at (from .read) ∙ rw no-b; is = rw no-a at (from .is) ∙ rw no-b; sound = from .sound }
+
+-- .. so who reads one byte more than a record's, or the whole file, has read the file.
+pub front-loaded : (buffer : List ℕ) (n : ℕ) {r : RecordRead} → recordBytes < length buffer → ReadFrom (take n buffer) r → FrontLoaded buffer n r
+front-loaded buffer n {r} room from whole front =
+    by-front (λ (bytes : List ℕ). ReadFrom bytes r) buffer n whole front from
+    (λ full long. wrong-lengths (take n buffer) whole (λ e. omega arith) (λ e. omega arith) from)
 
 -- Where no number is told, the bytes are accepted: with any answers to the questions.
 outcome-none : (a b c : Bool) → firstNo ((1, a) ∷ (14, b) ∷ (13, c) ∷ []) 0 (accepted 0) .number ≡ 0 → firstNo ((1, a) ∷ (14, b) ∷ (13, c) ∷ []) 0 (accepted 0) ≡ accepted 0
@@ -43,9 +55,15 @@ outcome-none true false c e = absurd (omega arith)
 outcome-none false b c e = absurd (omega arith)
 
 -- The bytes need not be named.
-pub sound-read : (bytes : List ℕ) (r : RecordRead) → ReadFrom bytes r → SoundRead r
-sound-read bytes r from = record { sound = from .sound; loaded = go (r .«is_read») (from .read) }
+pub sound-read : (buffer : List ℕ) (n : ℕ) (r : RecordRead) → n ≤ length buffer → FrontLoaded buffer n r → SoundRead r
+sound-read buffer n r h front = record { sound = from .sound; loaded = go (r .«is_read») (from .read) }
   where
+    bytes : List ℕ
+    bytes = take n buffer
+
+    from : ReadFrom (take n buffer) r
+    from = front (take n buffer) (front-self buffer n h)
+
     go : (b : Bool) → b ≡ eqb (loadOutcome bytes .number) 0 → LoadedIf b (r .state)
     go true e = record { bytes = bytes; outcome = outcome-none (eqb (length bytes) recordBytes) (eqb (getD (savedFields bytes) 0 0) edition) (isSound (recordOf (savedFields bytes))) (eqb-true (loadOutcome bytes .number) 0 (sym e)); is = from .is }
     go false e = from .is ∙ rw (← e)
@@ -56,8 +74,8 @@ fresh-read r fresh = record { sound = fresh .sound; loaded = rw (fresh .read) (f
 
 -- ---- a record that is saved
 
-pub saved-sound : (state : Record) (out : List ℕ) → accepted 0 ≡ saveOutcome state out → isSound state ≡ true
-saved-sound state out outcome =
-    let none : saveOutcome state out .number ≡ 0 = ap (λ (t : Outcome). t .number) (sym outcome) in
+pub saved-sound : (state : Record) (out : List ℕ) {t : Outcome} → t ≡ saveOutcome state out → t .number ≡ 0 → isSound state ≡ true
+saved-sound state out outcome good =
+    let none : saveOutcome state out .number ≡ 0 = ap (λ (t : Outcome). t .number) (sym outcome) ∙ good in
     let right = first-yes 1 0 (eqb (length out) recordBytes) _ (omega arith) none in
     first-yes 13 0 (isSound state) (accepted 0) (omega arith) (right .1) .0

@@ -10,6 +10,7 @@ use Rattle.text.specs.Questions.{accepted, unlessRefused}
 use Rattle.text.specs.Place.{put}
 use Rattle.files.specs.Irq2File.{irq2Outcome, fileCycles, rising}
 use Rattle.files.specs.Loaded.{CyclesLoaded, AreCycles}
+use Rattle.files.specs.Front.{IsFront}
 use Rattle.memories.specs.declared.Count.{Count}
 use Rattle.memories.specs.declared.Count.the-variants.{Of, None}
 use Rattle.memories.specs.declared.FileLoad.{FileLoad}
@@ -22,6 +23,15 @@ pub record CyclesFile (text : List ℕ) (t : Outcome) (before after : List ℕ) 
   pub places : after ≡ unlessRefused t (put before 0 (fileCycles text)) before
   pub rise : AreCycles t after
   pub counted : t .number ≡ 0 → t ≡ accepted (t .count)
+
+-- The most places that the front of an irq2 file decides about.
+abbrev pub mostPlaces : ℕ
+mostPlaces = 16384
+
+-- The cycles were read from the first n bytes of a buffer, and where the list has no more than so many places, from every whole text whose front they are.
+pub record FrontCycles (buffer : List ℕ) (n : ℕ) (t : Outcome) (before after : List ℕ) : Type 0 where
+  pub front : CyclesFile (take n buffer) t before after
+  pub whole : length before ≤ mostPlaces → (text : List ℕ) → IsFront buffer n text → CyclesFile text t before after
 
 -- The same of a file, whose text can't be named. A file that can't be read changes nothing.
 abbrev pub LoadedCycles : FileLoad → List ℕ → List ℕ → Type 0

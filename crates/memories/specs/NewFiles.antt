@@ -4,7 +4,7 @@ use mathlib.Core.Bool.{Bool, false}
 use Rattle.console.specs.declared.Writing.{Writing}
 use Rattle.console.specs.Writings.{noFile, Begun}
 
--- A file was begun; nothing is written of what its writer refuses.
+-- A file was begun; where its writer refuses, it is `noFile`.
 pub record NewWritten (isRight : Bool) (w : Writing) : Type 0 where
   pub begun : Begun w
   pub refused : isRight ≡ false → w ≡ noFile

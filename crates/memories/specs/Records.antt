@@ -9,12 +9,17 @@ use Rattle.machine.specs.declared.Record.{Record}
 use Rattle.machine.specs.Soundness.{Sound}
 use Rattle.saved.specs.Calls.{freshRecord, loadOutcome, loadRecord}
 use Rattle.memories.specs.declared.RecordRead.{RecordRead}
+use Rattle.files.specs.Front.{IsFront}
 
 -- The record that these bytes hold is read where the definition of `saved` accepts them; else it is the fresh record (`loadRecord`). It is sound.
 pub record ReadFrom (bytes : List ℕ) (r : RecordRead) : Type 0 where
   pub read : r .«is_read» ≡ eqb (loadOutcome bytes .number) 0
   pub is : r .state ≡ loadRecord bytes
   pub sound : Sound (r .state .core) (r .state .regs) (r .state .io)
+
+-- A record was read from every whole file whose front the buffer holds.
+abbrev pub FrontLoaded : (buffer : List ℕ) (n : ℕ) (r : RecordRead) → Type 0
+FrontLoaded buffer n r = (whole : List ℕ) → IsFront buffer n whole → ReadFrom whole r
 
 -- Of a file, whose bytes can't be named: the record that some bytes hold which the definition of `saved` accepts, ..
 pub record RecordLoaded (state : Record) : Type 0 where

@@ -7,7 +7,9 @@ use console::say_refusal;
 use files::read_irq2;
 use text::Outcome;
 ghost use mathlib.Core.Path.{_≡_};
-ghost use Rattle.memories.specs.Cycles.{CyclesFile, LoadedCycles, countOf, outcomeCount, RiseIn};
+ghost use Prim.Native.Nat.{_≤_, _<_};
+ghost use lib.ListN.{length};
+ghost use Rattle.memories.specs.Cycles.{FrontCycles, LoadedCycles, countOf, outcomeCount, RiseIn};
 
 // Reads an irq2 file of up to 16,384 cycles, or as many as there is room for. They stand at the front then, and rise.
 pub fn load_irq2(path: &[u8], cycles: &mut [u64]) -> FileLoad
@@ -15,16 +17,17 @@ pub fn load_irq2(path: &[u8], cycles: &mut [u64]) -> FileLoad
 {
     let mut text = [0u8; FRONT];
     if let Count::Of(n) = read_front(path, &mut text) {
-        return FileLoad::Read(fill_cycles(&text[..n], cycles));
+        return FileLoad::Read(fill_cycles(&text, n, cycles));
     }
     FileLoad::Unread
 }
 
-// Reads the cycles of a text.
-fn fill_cycles(text: &[u8], cycles: &mut [u64]) -> Outcome
-    ensures { λ r. ⌜ CyclesFile (now (text .entry)) r (now (cycles .entry)) (now (cycles .exit)) ⌝ }
+// Reads the cycles of a text of any length, of which the buffer holds the front in its first n bytes.
+fn fill_cycles(buffer: &[u8], n: usize, cycles: &mut [u64]) -> Outcome
+    requires { ⌜ (229376 < length (now buffer)) × (n ≤ length (now buffer)) ⌝ }
+    ensures { λ r. ⌜ FrontCycles (now (buffer .entry)) n r (now (cycles .entry)) (now (cycles .exit)) ⌝ }
 {
-    read_irq2(text, cycles).outcome()
+    read_irq2(&buffer[..n], cycles).outcome()
 }
 
 // Reads the irq2 file that an argument names, and returns how many cycles it has; none where it is refused, as is said.

@@ -12,7 +12,8 @@ use text::Outcome;
 ghost use Prim.Native.Nat.{_≤_, _<_};
 ghost use lib.ListN.{length};
 ghost use Rattle.files.specs.Sizes.{isImageLength, isDataLength, isFrameLength, isPartLength, imageDigits, wordDigits, frameDigits};
-ghost use Rattle.memories.specs.Loading.{FrontRead, LoadedFile};
+ghost use Rattle.files.specs.Front.{FrontRead};
+ghost use Rattle.memories.specs.Loading.{LoadedFile};
 
 // Reads an instruction file into the image.
 pub fn load_image(path: &[u8], image: &mut [u64]) -> FileLoad

@@ -61,7 +61,7 @@ pub fn abandon_at(i: usize, w: Writing) {
     abandon_file(&name[..n], w);
 }
 
-// Whether there is nothing where an argument says.
+// Whether there is nothing where an argument says. (What a file system has can't be said in a contract.)
 pub fn is_missing_at(i: usize) -> bool {
     let mut name = io::buffer();
     let n = os::arg(i, &mut name);

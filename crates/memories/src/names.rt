@@ -4,7 +4,8 @@ use text::same::are_same;
 use text::same::begins_with;
 ghost use mathlib.Core.Path.{_≡_};
 ghost use mathlib.Core.Bool.{true};
-ghost use Prim.Native.Nat.{_+_, _^_, _<_};
+ghost use mathlib.Core.List.{List};
+ghost use Prim.Native.Nat.{ℕ, _+_, _^_, _<_};
 ghost use Rattle.memories.specs.Names.{isDevice, isNewOf, clash};
 
 // Whether the name of a file that is written clashes with that of one before it: the arguments from `first` on, of which so many are read. Says so
@@ -75,8 +76,10 @@ fn is_new_of(new: &[u8], name: &[u8]) -> bool
     false
 }
 
-// Whether an argument names a device.
-pub fn is_device_at(i: usize) -> bool {
+// Whether an argument names a device: as it is of some name, which can't be named here.
+pub fn is_device_at(i: usize) -> bool
+    ensures { λ r. ⌜ ((name : List ℕ) × (r ≡ isDevice name)) ⌝ }
+{
     let mut name = io::buffer();
     let n = os::arg(i, &mut name);
     is_device(&name[..n])

@@ -7,6 +7,7 @@ use files::write_data;
 use files::write_disk;
 use files::write_frame;
 use files::write_image;
+use text::Outcome;
 ghost use mathlib.Core.Path.{_≡_};
 ghost use lib.Dec.{eqb};
 ghost use lib.ListN.{length};
@@ -69,18 +70,18 @@ pub fn write_new_bytes(i: usize, bytes: &[u8]) -> Writing
 fn write_new_text(i: usize, written: Written, text: &[u8]) -> Writing
     ensures { λ r. ⌜ NewWritten (eqb (writtenOutcome written .number) 0) r ⌝ }
 {
-    match written {
-        Written::Bytes(_) => write_new_bytes(i, text),
-        Written::WrongLength => unwritten(i, 1),
-        Written::NoRoom => unwritten(i, 15),
+    let outcome = written.outcome();
+    if outcome.number != 0 {
+        return unwritten(i, outcome);
     }
+    write_new_bytes(i, text)
 }
 
 // Says why a file is not written.
-pub fn unwritten(i: usize, number: u32) -> Writing
+pub fn unwritten(i: usize, outcome: Outcome) -> Writing
     ensures { λ r. ⌜ r ≡ noFile ⌝ }
 {
-    refuse_at(i, number, 0);
+    refuse_at(i, outcome.number, outcome.place);
     Writing {
         fd: -1,
         is_new: false,

@@ -12,10 +12,10 @@ use saved::Saved;
 use saved::fresh_record;
 use saved::load;
 use saved::save;
-ghost use mathlib.Core.Path.{_≡_};
-ghost use Rattle.saved.specs.Answers.{loadedOutcome};
+ghost use Prim.Native.Nat.{_≤_, _<_};
+ghost use lib.ListN.{length};
 ghost use Rattle.saved.specs.Sound.{isSound};
-ghost use Rattle.memories.specs.Records.{ReadFrom, SoundRead, FreshRead};
+ghost use Rattle.memories.specs.Records.{FrontLoaded, SoundRead, FreshRead};
 ghost use Rattle.memories.specs.NewFiles.{NewWritten};
 
 // The bytes of a saved record.
@@ -30,38 +30,27 @@ pub fn load_record_at(i: usize) -> RecordRead
 {
     let mut bytes = [0u8; FRONT];
     if let Count::Of(n) = read_front_at(i, &mut bytes) {
-        return record_of(i, &bytes[..n]);
+        return record_of(i, &bytes, n);
     }
     fresh(false)
 }
 
-// The record that bytes hold; the fresh record where they are refused, as is said.
-fn record_of(i: usize, bytes: &[u8]) -> RecordRead
-    ensures { λ r. ⌜ ReadFrom (now (bytes .entry)) r ⌝ }
+// The record of a file of any length, of which the buffer holds the front in its first n bytes; the fresh record where it is refused, as is said.
+fn record_of(i: usize, buffer: &[u8], n: usize) -> RecordRead
+    requires { ⌜ (91 < length (now buffer)) × (n ≤ length (now buffer)) ⌝ }
+    ensures { λ r. ⌜ FrontLoaded (now (buffer .entry)) n r ⌝ }
 {
-    let loaded = load(bytes);
+    let loaded = load(&buffer[..n]);
     let answer = loaded.answer;
-    let number = number_of(answer);
-    if number != 0 {
-        refuse_at(i, number, 0);
+    let outcome = answer.outcome();
+    if outcome.number != 0 {
+        refuse_at(i, outcome.number, outcome.place);
         return fresh(false);
     }
     let state = loaded.state;
     RecordRead {
         state: state,
         is_read: true,
-    }
-}
-
-// The number of a refusal; 0 of none.
-fn number_of(answer: LoadAnswer) -> u32
-    ensures { λ r. ⌜ r ≡ loadedOutcome answer .number ⌝ }
-{
-    match answer {
-        LoadAnswer::Loaded => 0,
-        LoadAnswer::WrongLength => 1,
-        LoadAnswer::OtherEdition => 14,
-        LoadAnswer::Unsound => 13,
     }
 }
 
@@ -81,9 +70,9 @@ pub fn write_new_record(i: usize, state: Record) -> Writing
     ensures { λ r. ⌜ NewWritten (isSound state) r ⌝ }
 {
     let mut bytes = [0u8; BYTES];
-    match save(state, &mut bytes) {
-        Saved::Done => write_new_bytes(i, &bytes),
-        Saved::WrongLength => unwritten(i, 1),
-        Saved::Unsound => unwritten(i, 13),
+    let outcome = save(state, &mut bytes).outcome();
+    if outcome.number != 0 {
+        return unwritten(i, outcome);
     }
+    write_new_bytes(i, &bytes)
 }

@@ -1,25 +1,20 @@
 -- Numbers that name nothing. Assumes nothing.
-use Prim.Native.Nat.{ℕ, _+_, _≤_, _<_}
-use mathlib.Core.Path.{_≡_, refl, sym, ap}
+use Prim.Native.Nat.{ℕ, _≤_}
+use mathlib.Core.Path.{_≡_, refl, ap}
 use mathlib.Core.Bool.{Bool, true, false}
-use mathlib.Core.List.{List, []}
-use native.Mathlib.Nat.{add-zero}
+use mathlib.Core.List.{[]}
 use native.Mathlib.Omega.{arith}
-use lib.ListN.{length}
 use lib.Dec.{eqb}
 use borrow.Author.Tests.{eqb-true, eqb-false}
-use Rattle.text.specs.Place.{put}
-use Rattle.text.proofs.PutLaws.{put-nil}
 use Rattle.isa.specs.Registers.{ioName}
+use Rattle.isa.proofs.IoLaws.{no-name-above}
 
--- Nothing is laid of an empty name.
-pub nothing-laid : (out : List ℕ) (at : ℕ) (name : List ℕ) → name ≡ [] → (out ≡ put out at name) × (at ≡ at + length name)
-nothing-laid out at name e = rw e (sym (put-nil out at), sym (add-zero at))
-
-pub no-io-between : (n : ℕ) → 18 ≤ n → n < 20 → ioName n ≡ []
+-- The numbers from 18 on name nothing but for 20 to 22.
+pub no-name : (n : ℕ) → 18 ≤ n → (n ≡ 20 → ⊥) → (n ≡ 21 → ⊥) → (n ≡ 22 → ⊥) → ioName n ≡ []
 unfolding ioName
-no-io-between n h k = go (eqb n 18) refl
+no-name n h a b c = go (eqb n 18) (eqb n 19) refl refl
   where
-    go : (t : Bool) → eqb n 18 ≡ t → ioName n ≡ []
-    go true e = ap ioName (eqb-true n 18 e)
-    go false e = let other = eqb-false n 18 e in let last : n ≡ 19 = omega arith in ap ioName last
+    go : (s t : Bool) → eqb n 18 ≡ s → eqb n 19 ≡ t → ioName n ≡ []
+    go true t e f = ap ioName (eqb-true n 18 e)
+    go false true e f = ap ioName (eqb-true n 19 f)
+    go false false e f = no-name-above n (omega (arith, eqb-false n 18 e, eqb-false n 19 f))

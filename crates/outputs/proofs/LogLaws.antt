@@ -12,7 +12,7 @@ use Rattle.text.specs.Lines.{LF, inFront, lines, firstLine, unlines}
 use Rattle.text.specs.Place.{put}
 use Rattle.text.proofs.LineLaws.{lines-at}
 use Rattle.text.proofs.PutLaws.{put-one, put-append}
-use Rattle.names.proofs.NameLaws.{nothing-laid}
+use Rattle.text.proofs.PutLaws.{puts-nothing}
 use Rattle.outputs.specs.LogFiles.{linesOf, linesWith, lineWith, Taken}
 use Rattle.outputs.proofs.PieceLaws.{ended, counted}
 
@@ -33,17 +33,17 @@ with-letter letter [] some e = absurd (omega arith)
 with-letter letter (c ∷ l) some e = rw (eq-eqb c letter e)
 
 module _ (letter : ℕ) (l out : List ℕ) (at : ℕ) (first : getD l 0 0 ≡ letter) where
-  -- Of the letter alone only an LF is laid, ..
-  pub letter-laid : length l ≡ 1 → (set out at LF ≡ put out at (lineWith letter l)) × (at + 1 ≡ at + length (lineWith letter l))
-  letter-laid one =
+  -- Of the letter alone only an LF is put, ..
+  pub letter-put : length l ≡ 1 → (set out at LF ≡ put out at (lineWith letter l)) × (at + 1 ≡ at + length (lineWith letter l))
+  letter-put one =
       let short : length l ≤ 2 = omega arith in
       rw (with-letter letter l (omega arith) first, drop-of-length-le l short) (sym (put-one out at LF), refl)
 
   -- .. of a longer line what follows the blank.
-  pub rest-laid : (e : List ℕ) (to : ℕ) → 2 ≤ length l → e ≡ put out at (take (length l - 2) (drop 2 l))
+  pub rest-put : (e : List ℕ) (to : ℕ) → 2 ≤ length l → e ≡ put out at (take (length l - 2) (drop 2 l))
       → to ≡ at + length (take (length l - 2) (drop 2 l))
       → (set e to LF ≡ put out at (lineWith letter l)) × (to + 1 ≡ at + length (lineWith letter l))
-  rest-laid e to long q t =
+  rest-put e to long q t =
       let whole : take (length l - 2) (drop 2 l) ≡ drop 2 l = take-all (length l - 2) (drop 2 l) (rw length-drop (omega arith)) in
       rw (with-letter letter l (omega arith) first) (ended out e at to (drop 2 l) (rw whole at q, rw whole at t))
 
@@ -99,10 +99,10 @@ module _ {letter : ℕ} {log before : List ℕ} {from end : ℕ} (h : from < len
       → to ≤ at + length (take (end - from) (drop from log))
       → length e ≡ length out
       → Taking letter log before (end + 1) to e
-  taking-more laid size few same =
+  taking-more is-put size few same =
       let part : length (take (end - from) (drop from log)) ≤ end - from = rw length-take (omega arith) in
       record {
-        text = take-turn letter log from end h q out e at to laid size ∙ t .text;
+        text = take-turn letter log from end h q out e at to is-put size ∙ t .text;
         bytes-are = take-size letter log from end h q at to size ∙ t .bytes-are;
         kept = same ∙ t .kept;
         behind = omega (arith, t .behind, few, part, q);
@@ -120,9 +120,9 @@ taking-fits {letter} {log} {before} {from} {at} {end} {out} q inside t room =
 pub taking-all : {letter : ℕ} {log before : List ℕ} {from at : ℕ} {out : List ℕ} → length log ≤ from → length log ≤ length before
     → Taking letter log before from at out → Taken letter log before at out
 taking-all {letter} {log} {before} {from} {at} {out} past room t =
-    let laid = nothing-laid out at _ (none-left letter log from past) in
-    let whole = laid .0 ∙ t .text in
-    record { text = whole; bytes-are = laid .1 ∙ t .bytes-are; within = counted before out 0 at _ whole (omega (arith, t .within)) }
+    let is-put = puts-nothing out at _ (none-left letter log from past) in
+    let whole = is-put .0 ∙ t .text in
+    record { text = whole; bytes-are = is-put .1 ∙ t .bytes-are; within = counted before out 0 at _ whole (omega (arith, t .within)) }
 
 -- ---- a log in pieces
 

@@ -1,4 +1,4 @@
--- Pieces of a text laid one after another, by the place after each, and lines. Assumes nothing.
+-- Pieces of a text put one after another, by the place after each, and lines. Assumes nothing.
 use Prim.Native.Nat.{ℕ, _+_, _≤_, _<_}
 use mathlib.Core.Path.{_≡_, refl, sym, _∙_}
 use mathlib.Core.List.{List, [], _∷_, _++_, map, map-append, append-assoc}
@@ -16,7 +16,7 @@ use Rattle.text.proofs.PieceLaws.{more, store-after}
 use Rattle.text.proofs.PutLaws.{length-put}
 use Rattle.io.specs.Counts.{Counts}
 
--- The list d has become e, with xs laid at a place, and the place after them is `to`.
+-- The list d has become e, with xs put at a place, and the place after them is `to`.
 abbrev pub Piece : List ℕ → ℕ → List ℕ → List ℕ → ℕ → Type 0
 Piece d at xs e to = (e ≡ put d at xs) × (to ≡ at + length xs)
 
@@ -30,15 +30,15 @@ ended d e at p xs piece = (store-after d e at p LF xs (piece .1) (piece .0), rw 
 
 -- At the front the place after a piece is its length.
 pub from-front : (d e : List ℕ) (p : ℕ) (xs : List ℕ) → e ≡ put d 0 xs → p ≡ length xs → Piece d 0 xs e p
-from-front d e p xs laid size = (laid, size ∙ sym (zero-add (length xs)))
+from-front d e p xs is-put size = (is-put, size ∙ sym (zero-add (length xs)))
 
 pub at-front : (d e : List ℕ) (p : ℕ) (xs : List ℕ) → Piece d 0 xs e p → p ≡ length xs
 at-front d e p xs piece = piece .1 ∙ zero-add (length xs)
 
 -- The place after a piece counts bytes within the list.
 pub counted : (d e : List ℕ) (at to : ℕ) (xs : List ℕ) → e ≡ put d at xs → to ≤ length d → Counts to e
-counted d e at to xs laid room =
-    let fits : to ≤ length e = rw (laid, length-put) room in
+counted d e at to xs is-put room =
+    let fits : to ≤ length e = rw (is-put, length-put) room in
     (fits, sym (length-take-le to e fits))
 
 -- A number in decimal after a piece.

@@ -1,4 +1,4 @@
--- The registers' names and numbers, and their lines, as the code lays them. Assumes nothing.
+-- The registers' names and numbers, and their lines, as the code puts them. Assumes nothing.
 use Prim.Native.Nat.{ℕ, _+_, _-_, _*_, _≤_, _<_}
 use mathlib.Core.Path.{_≡_, refl}
 use mathlib.Core.List.{List, [], _∷_, _++_, append-assoc}
@@ -20,10 +20,10 @@ use Rattle.outputs.specs.RecordText.{wordLine, savedRegisters, savedIo}
 use Rattle.outputs.proofs.PieceLaws.{Piece, joined}
 
 -- A name and a word on a line.
-pub word-laid : (name : List ℕ) (x at p q : ℕ) (d e f : List ℕ) → Piece d at name e p → f ≡ put e p (field (digits 16 8 x) ++ (LF ∷ [])) → q ≡ p + 10
+pub word-put : (name : List ℕ) (x at p q : ℕ) (d e f : List ℕ) → Piece d at name e p → f ≡ put e p (field (digits 16 8 x) ++ (LF ∷ [])) → q ≡ p + 10
     → Piece d at (wordLine name x ++ (LF ∷ [])) f q
 unfolding wordLine
-word-laid name x at p q d e f first second t =
+word-put name x at p q d e f first second t =
     rw append-assoc
     (joined d e f at p q name (field (digits 16 8 x) ++ (LF ∷ [])) first (second, simp (length-append, length-digits) (omega arith)))
 
@@ -39,13 +39,13 @@ name-part : (i : ℕ) → i < 13 → take 3 (drop (i * 3) names) ≡ registerNam
 unfolding registerName same
 name-part = table-rule (λ k. take 3 (drop (k * 3) names)) (λ k. registerName (3 + k)) 13 refl
 
-pub register-laid : (i x at p q : ℕ) (d e f : List ℕ) → i < 13 → Piece d at (take (i * 3 + 3 - i * 3) (drop (i * 3) names)) e p
+pub register-put : (i x at p q : ℕ) (d e f : List ℕ) → i < 13 → Piece d at (take (i * 3 + 3 - i * 3) (drop (i * 3) names)) e p
     → f ≡ put e p (field (digits 16 8 x) ++ (LF ∷ [])) → q ≡ p + 10
     → Piece d at (wordLine (registerName (3 + i)) x ++ (LF ∷ [])) f q × (q ≡ at + 13)
-register-laid i x at p q d e f h first second t =
+register-put i x at p q d e f h first second t =
     let three : i * 3 + 3 - i * 3 ≡ 3 = omega arith in
     let name : Piece d at (registerName (3 + i)) e p = rw (three, name-part i h) at first in
-    (word-laid (registerName (3 + i)) x at p q d e f name second t, omega (arith, name .1, name-length i h))
+    (word-put (registerName (3 + i)) x at p q d e f name second t, omega (arith, name .1, name-length i h))
 
 -- The numbers of the registers in turn, ..
 pub register-number : (i : ℕ) → i < 13 → 3 + i ≡ getD savedRegisters i 0

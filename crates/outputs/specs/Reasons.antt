@@ -1,17 +1,18 @@
 -- The line that says where and why a run stopped.
-use Prim.Native.Nat.{ℕ, _-_, _^_}
+use Prim.Native.Nat.{ℕ}
 use mathlib.Core.Bool.{cond}
 use mathlib.Core.List.{List, [], _∷_, _++_}
 use lib.Dec.{eqb}
 use Rattle.text.specs.Bytes.{bytes}
 use Rattle.text.specs.Lines.{LF}
 use Rattle.text.specs.Numerals.{digits, decimal}
+use Rattle.files.specs.Sizes.{cycleLimit}
 use Rattle.machine.specs.declared.Core.{Core}
 use Rattle.outputs.specs.Statuses.{statusWords}
 
 -- A machine that is running still made no further cycle: "age = 2^40-1 (reason 3); budget spent (reason 0)".
 unfoldable pub unfinished : ℕ → List ℕ
-unfinished age = cond (eqb age (2 ^ 40 - 1)) (bytes "at the cycle limit") (bytes "the budget is spent")
+unfinished age = cond (eqb age cycleLimit) (bytes "at the cycle limit") (bytes "the budget is spent")
 
 -- "a fault sets its status": its number and its words.
 unfoldable pub fault : ℕ → List ℕ

@@ -1,4 +1,4 @@
--- A record as the program `show` prints it: each field by its name, a line each, in the order of the saved record.
+-- A record as `lab show` prints it: each field by its name, a line each, in the order of the saved record.
 use Prim.Native.Nat.{ℕ, _-_}
 use mathlib.Core.List.{List, [], _∷_, _++_, map}
 use lib.ListN.{getD}

@@ -13,7 +13,7 @@ ghost use Rattle.text.specs.Lines.{LF as lf, unlines};
 ghost use Rattle.text.specs.Place.{put};
 ghost use Rattle.outputs.specs.RecordText.{statusLine, pcLine, coreLines};
 
-// Lays status, handler, PC, age and left at the front and returns the place after them.
+// Puts status, handler, PC, age and left at the front and returns the place after them.
 pub fn put_core_lines(core: Core, out: &mut [u8]) -> usize
     requires { ⌜ 148 ≤ length (now out) ⌝ }
     ensures { λ r. ⌜ (now (out .exit) ≡ put (now (out .entry)) 0 (unlines (coreLines core))) × (r ≡ length (unlines (coreLines core))) × (r ≤ 148) ⌝ }
@@ -25,7 +25,7 @@ pub fn put_core_lines(core: Core, out: &mut [u8]) -> usize
     put_number_line(b"left ", core.left as u64, out, left_at)
 }
 
-// Lays the status and its meaning at the front and returns the place after them.
+// Puts the status and its meaning at the front and returns the place after them.
 fn put_status_line(status: u32, out: &mut [u8]) -> usize
     requires { ⌜ 61 ≤ length (now out) ⌝ }
     ensures { λ r. ⌜ (now (out .exit) ≡ put (now (out .entry)) 0 (statusLine status ++ (lf ∷ []))) × (r ≡ length (statusLine status ++ (lf ∷ []))) × (r ≤ 61) ⌝ }
@@ -35,7 +35,7 @@ fn put_status_line(status: u32, out: &mut [u8]) -> usize
     end + 1
 }
 
-// Lays PC at a place and returns the place after it.
+// Puts PC at a place and returns the place after it.
 fn put_pc_line(pc: u32, out: &mut [u8], at: usize) -> usize
     requires { ⌜ at + 7 ≤ length (now out) ⌝ }
     ensures { λ r. ⌜ (now (out .exit) ≡ put (now (out .entry)) at (pcLine pc ++ (lf ∷ []))) × (r ≡ at + length (pcLine pc ++ (lf ∷ []))) × (r ≡ at + 7) ⌝ }

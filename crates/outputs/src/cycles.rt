@@ -7,7 +7,7 @@ ghost use Rattle.text.specs.Place.{put};
 ghost use Rattle.io.specs.Counts.{Counts};
 ghost use Rattle.outputs.specs.Cycles.{cyclesText};
 
-// Lays the number of cycles in decimal and an LF at the front and returns how many bytes they have.
+// Puts the number of cycles in decimal and an LF at the front and returns how many bytes they have.
 pub fn put_cycles(age: u64, out: &mut [u8]) -> usize
     requires { ⌜ 21 ≤ length (now out) ⌝ }
     ensures { λ r. ⌜ (now (out .exit) ≡ put (now (out .entry)) 0 (cyclesText age)) × (r ≡ length (cyclesText age)) × (r ≤ 21) × Counts r (now (out .exit)) ⌝ }

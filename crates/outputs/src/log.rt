@@ -3,13 +3,12 @@ use crate::Split;
 use text::lines::LF;
 use text::lines::line_end;
 use text::place::put_bytes;
-ghost use mathlib.Core.Path.{_≡_};
 ghost use Prim.Native.Nat.{_+_, _≤_};
 ghost use lib.ListN.{length};
-ghost use Rattle.text.specs.Place.{put};
+ghost use Rattle.text.specs.Place.{PutsWithin};
 ghost use Rattle.outputs.specs.LogFiles.{letterT, letterH, letterL, letterD, lineWith, Taken};
 
-// Splits a log: lays the lines that begin with T, H, L and D, each without the letter and the blank after it, at the fronts of four texts, and
+// Splits a log: puts the lines that begin with T, H, L and D, each without the letter and the blank after it, at the fronts of four texts, and
 // returns how many bytes each has.
 pub fn split_log(
     log: &[u8],
@@ -42,11 +41,11 @@ pub fn split_log(
     }
 }
 
-// Lays a line that begins with the letter, without the letter and the blank after it, and an LF at a place and returns the place after them; of
-// another line lays nothing.
+// Puts a line that begins with the letter, without the letter and the blank after it, and an LF at a place and returns the place after them; of
+// another line puts nothing.
 fn put_taken(line: &[u8], letter: u8, out: &mut [u8], at: usize) -> usize
     requires { ⌜ at + length (now line) ≤ length (now out) ⌝ }
-    ensures { λ r. ⌜ (now (out .exit) ≡ put (now (out .entry)) at (lineWith letter (now (line .entry)))) × (r ≡ at + length (lineWith letter (now (line .entry)))) × (r ≤ at + length (now (line .entry))) ⌝ }
+    ensures { λ r. ⌜ PutsWithin (length (now (line .entry))) (now (out .entry)) at (lineWith letter (now (line .entry))) r (now (out .exit)) ⌝ }
 {
     if line.len() == 0 {
         return at;

@@ -10,7 +10,7 @@ ghost use Rattle.text.specs.Lines.{LF as lf};
 ghost use Rattle.text.specs.Numerals.{decimal};
 ghost use Rattle.text.specs.Place.{put};
 
-// Lays a line at a place, what stands in front of a number and the number in decimal, and returns the place after it.
+// Puts a line at a place, what stands in front of a number and the number in decimal, and returns the place after it.
 pub fn put_number_line(front: &[u8], v: u64, out: &mut [u8], at: usize) -> usize
     requires { ⌜ at + length (now front) + 21 ≤ length (now out) ⌝ }
     ensures { λ r. ⌜ (now (out .exit) ≡ put (now (out .entry)) at (now (front .entry) ++ decimal v ++ (lf ∷ []))) × (r ≡ at + length (now (front .entry) ++ decimal v ++ (lf ∷ []))) × (r ≤ at + length (now (front .entry)) + 21) ⌝ }

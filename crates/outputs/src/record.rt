@@ -11,7 +11,7 @@ ghost use Rattle.text.specs.Place.{put};
 ghost use Rattle.io.specs.Counts.{Counts};
 ghost use Rattle.outputs.specs.RecordText.{recordText};
 
-// Lays the fields of a record by their names at the front and returns how many bytes they have.
+// Puts the fields of a record by their names at the front and returns how many bytes they have.
 pub fn put_record(r: Record, out: &mut [u8]) -> usize
     requires { ⌜ 768 ≤ length (now out) ⌝ }
     ensures { λ n. ⌜ (now (out .exit) ≡ put (now (out .entry)) 0 (recordText r)) × (n ≡ length (recordText r)) × (n ≤ 768) × Counts n (now (out .exit)) ⌝ }

@@ -8,14 +8,14 @@ ghost use Prim.Native.Nat.{_+_, _≤_, _<_};
 ghost use lib.ListN.{length, getD};
 ghost use Rattle.text.specs.Lines.{LF as lf, unlines};
 ghost use Rattle.text.specs.Numerals.{HexWords};
-ghost use Rattle.text.specs.Place.{put};
+ghost use Rattle.text.specs.Place.{put, PutsWithin};
 ghost use Rattle.isa.specs.Registers.{registerName, ioName};
 ghost use Rattle.outputs.specs.RecordText.{wordLine, savedRegisters, registerLine, savedIo, ioLine};
 
-// Lays R3 to R15 from a place on and returns the place after them.
+// Puts R3 to R15 from a place on and returns the place after them.
 pub fn put_register_lines(regs: &[u32; 13], out: &mut [u8], at: usize, table: &[u64; 1024]) -> usize
     requires { ⌜ (length (now regs) ≡ 13) × (at + 169 ≤ length (now out)) × HexWords (now table) ⌝ }
-    ensures { λ r. ⌜ (now (out .exit) ≡ put (now (out .entry)) at (unlines (map (registerLine (now (regs .entry))) savedRegisters))) × (r ≡ at + length (unlines (map (registerLine (now (regs .entry))) savedRegisters))) × (r ≤ at + 169) ⌝ }
+    ensures { λ r. ⌜ PutsWithin 169 (now (out .entry)) at (unlines (map (registerLine (now (regs .entry))) savedRegisters)) r (now (out .exit)) ⌝ }
 {
     let mut end = at;
     let mut i = 0;
@@ -26,10 +26,10 @@ pub fn put_register_lines(regs: &[u32; 13], out: &mut [u8], at: usize, table: &[
     end
 }
 
-// Lays the I/O registers that a saved record has from a place on and returns the place after them.
+// Puts the I/O registers that a saved record has from a place on and returns the place after them.
 pub fn put_io_lines(io: &[u32; 23], out: &mut [u8], at: usize, table: &[u64; 1024]) -> usize
     requires { ⌜ (length (now io) ≡ 23) × (at + 440 ≤ length (now out)) × HexWords (now table) ⌝ }
-    ensures { λ r. ⌜ (now (out .exit) ≡ put (now (out .entry)) at (unlines (map (ioLine (now (io .entry))) savedIo))) × (r ≡ at + length (unlines (map (ioLine (now (io .entry))) savedIo))) × (r ≤ at + 440) ⌝ }
+    ensures { λ r. ⌜ PutsWithin 440 (now (out .entry)) at (unlines (map (ioLine (now (io .entry))) savedIo)) r (now (out .exit)) ⌝ }
 {
     let mut end = at;
     let mut i = 0;
@@ -49,7 +49,7 @@ fn saved_io(i: usize) -> usize
     if i < 18 { i } else { i + 2 }
 }
 
-// Lays the register R(3 + i) with the value x at a place and returns the place after it.
+// Puts the register R(3 + i) with the value x at a place and returns the place after it.
 fn put_register_line(i: usize, x: u32, out: &mut [u8], at: usize, table: &[u64; 1024]) -> usize
     requires { ⌜ (i < 13) × (at + 13 ≤ length (now out)) × HexWords (now table) ⌝ }
     ensures { λ r. ⌜ (now (out .exit) ≡ put (now (out .entry)) at (wordLine (registerName (3 + i)) x ++ (lf ∷ []))) × (r ≡ at + length (wordLine (registerName (3 + i)) x ++ (lf ∷ []))) × (r ≡ at + 13) ⌝ }
@@ -59,10 +59,10 @@ fn put_register_line(i: usize, x: u32, out: &mut [u8], at: usize, table: &[u64; 
     put_last_word(out, value_at, x, table)
 }
 
-// Lays the I/O register n with the value x at a place and returns the place after it.
+// Puts the I/O register n with the value x at a place and returns the place after it.
 fn put_io_line(n: usize, x: u32, out: &mut [u8], at: usize, table: &[u64; 1024]) -> usize
     requires { ⌜ (n < 22) × (at + 22 ≤ length (now out)) × HexWords (now table) ⌝ }
-    ensures { λ r. ⌜ (now (out .exit) ≡ put (now (out .entry)) at (wordLine (ioName n) x ++ (lf ∷ []))) × (r ≡ at + length (wordLine (ioName n) x ++ (lf ∷ []))) × (r ≤ at + 22) ⌝ }
+    ensures { λ r. ⌜ PutsWithin 22 (now (out .entry)) at (wordLine (ioName n) x ++ (lf ∷ [])) r (now (out .exit)) ⌝ }
 {
     let value_at = put_io_name(out, at, n as u32);
     put_last_word(out, value_at, x, table)

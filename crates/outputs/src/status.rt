@@ -6,7 +6,7 @@ ghost use mathlib.Core.List.{_++_};
 ghost use Prim.Native.Nat.{_+_, _≤_, _<_};
 ghost use lib.ListN.{length};
 ghost use Rattle.text.specs.Numerals.{decimal};
-ghost use Rattle.text.specs.Place.{put};
+ghost use Rattle.text.specs.Place.{put, PutsWithin};
 ghost use Rattle.outputs.specs.Statuses.{statusWords};
 
 // The words of the statuses, each filled up with blanks to 42 bytes, ..
@@ -16,7 +16,7 @@ const WORDS: [u8; 252] =
 // .. and how many bytes they have.
 const LENGTHS: [usize; 6] = [7, 6, 22, 30, 30, 42];
 
-// Lays a status at a place, what stands in front of its number, the number, what stands between, and its words; returns the place after them.
+// Puts a status at a place, what stands in front of its number, the number, what stands between, and its words; returns the place after them.
 pub fn put_status(front: &[u8], status: u32, between: &[u8], out: &mut [u8], at: usize) -> usize
     requires { ⌜ at + length (now front) + length (now between) + 52 ≤ length (now out) ⌝ }
     ensures { λ r. ⌜ (now (out .exit) ≡ put (now (out .entry)) at (now (front .entry) ++ decimal status ++ now (between .entry) ++ statusWords status)) × (r ≡ at + length (now (front .entry) ++ decimal status ++ now (between .entry) ++ statusWords status)) × (r ≤ at + length (now (front .entry)) + length (now (between .entry)) + 52) ⌝ }
@@ -27,10 +27,10 @@ pub fn put_status(front: &[u8], status: u32, between: &[u8], out: &mut [u8], at:
     put_status_words(out, words_at, status)
 }
 
-// Lays the words of a status at a place and returns the place after them; a number that is no status lays nothing.
+// Puts the words of a status at a place and returns the place after them; a number that is no status puts nothing.
 fn put_status_words(out: &mut [u8], at: usize, status: u32) -> usize
     requires { ⌜ at + 42 ≤ length (now out) ⌝ }
-    ensures { λ r. ⌜ (now (out .exit) ≡ put (now (out .entry)) at (statusWords status)) × (r ≡ at + length (statusWords status)) × (r ≤ at + 42) ⌝ }
+    ensures { λ r. ⌜ PutsWithin 42 (now (out .entry)) at (statusWords status) r (now (out .exit)) ⌝ }
 {
     if 5 < status {
         return at;

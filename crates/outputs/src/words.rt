@@ -10,7 +10,7 @@ ghost use Rattle.text.specs.Numerals.{digits, HexWords};
 ghost use Rattle.text.specs.Place.{put};
 ghost use Rattle.trace.specs.LogLines.{field};
 
-// Lays a blank, a word in hexadecimal and an LF at a place and returns the place after them.
+// Puts a blank, a word in hexadecimal and an LF at a place and returns the place after them.
 pub fn put_last_word(out: &mut [u8], at: usize, x: u32, table: &[u64; 1024]) -> usize
     requires { ⌜ (at + 10 ≤ length (now out)) × HexWords (now table) ⌝ }
     ensures { λ r. ⌜ (now (out .exit) ≡ put (now (out .entry)) at (field (digits 16 8 x) ++ (lf ∷ []))) × (r ≡ at + 10) ⌝ }

@@ -1,12 +1,13 @@
 -- Listing and assembling (demand 2): "Listing an image with known opcodes and assembling the text yields that image". First of the lister's text and
 -- what a good text gives, then of any two calls that keep the lister's and the assembler's promises. `KnownOpcodes words`: each word's opcode
 -- is at most 21. Assumes nothing.
-use Prim.Native.Nat.{ℕ, _-_, _≤_}
-use mathlib.Core.Path.{_≡_, sym, _∙_, ap}
-use mathlib.Core.List.{List, _++_, append-nil}
+use Prim.Native.Nat.{ℕ, zero, suc, _+_, _-_, _≤_, _<_}
+use mathlib.Core.Path.{_≡_, refl, sym, _∙_, ap}
+use mathlib.Core.List.{List, [], _∷_, _++_, append-nil}
 use native.Mathlib.Nat.{zero-add}
 use native.Mathlib.Omega.{arith}
 use lib.ListN.{length, take, replicate, length-map}
+use lib.Seq.{length-take-le}
 use borrow.Author.Tests.{le-leb}
 use Rattle.text.specs.Questions.{accepted, firstBad}
 use Rattle.text.specs.Lines.{lines}
@@ -22,8 +23,9 @@ use Rattle.assembler.specs.Promises.{Assembling}
 use Rattle.lister.specs.declared.Listed.{Listed}
 use Rattle.lister.specs.Listing.{listing}
 use Rattle.lister.specs.Calls.{KnownOpcodes, listedOutcome, listOutcome, TextListed}
+use Rattle.lister.specs.Used.{IsZero, Used}
 use Rattle.lister.proofs.ListingLaws.{listing-most}
-use Rattle.roundtrip.specs.Demand2.{Demand2}
+use Rattle.roundtrip.specs.Demand2.{ListingReturns}
 use Rattle.roundtrip.proofs.ListedText.{listed-lines, no-line-bad, listed-code, nothing-stored}
 use Rattle.lister.proofs.CallLaws.{all-known, accepted-is, text-in-front}
 
@@ -97,9 +99,36 @@ listed-image-returns words out r after n image memory a imageAfter memoryAfter l
     let back = listed-assembles words out r after n image memory a imageAfter memoryAfter listed good image-size data-size assembled in
     (back .0, rw (back .1) (same-image words whole))
 
--- Demand 2 for listing and assembling, whole: with room for the text an image with known opcodes is listed, and its listing gives it back.
-pub demand2 : Demand2
-demand2 words out text image memory imageAfter memoryAfter r a whole known room listed image-size data-size assembled =
+-- Nor need it be listed whole: the words up to the last that is not zero are enough, since the assembler leaves zeros after them.
+zeros-after : (n k : ℕ) (words : List ℕ) → n + k ≡ length words → ((i : ℕ) → n ≤ i → i < length words → IsZero words i)
+    → low48 (take n words) ++ replicate k 0 ≡ low48 words
+zeros-after zero zero [] e zeros = refl
+zeros-after zero zero (w ∷ ws) e zeros = absurd (omega arith)
+zeros-after zero (suc k) [] e zeros = absurd (omega arith)
+zeros-after zero (suc k) (w ∷ ws) e zeros =
+    rw (zeros 0 (omega arith) (omega arith), ← zeros-after zero k ws (omega arith) (λ i low high. zeros (suc i) (omega arith) (omega arith)))
+zeros-after (suc n) k [] e zeros = absurd (omega arith)
+zeros-after (suc n) k (w ∷ ws) e zeros =
+    rw (zeros-after n k ws (omega arith) (λ i low high. zeros (suc i) (omega arith) (omega arith)))
+
+module _ (words : List ℕ) (n : ℕ) (used : Used words n) (whole : length words ≡ imageWords) where
+  used-image : SameImage (low48 (take n words) ++ replicate (imageWords - length (take n words)) 0) words
+  used-image =
+      let within = used .within in
+      rw (length-take-le n words within, zeros-after n (imageWords - n) words (omega arith) (used .rest)) (same-image-returns words)
+
+  pub used-returns : (out : List ℕ) (r : Listed) (after : List ℕ) (m : ℕ) (image memory : List ℕ) (a : Assembled) (imageAfter memoryAfter : List ℕ)
+      → TextListed (take n words) out r after → listedOutcome r ≡ accepted m
+      → length image ≡ imageWords → length memory ≡ dataWords
+      → Assembling (take m after) image memory a imageAfter memoryAfter
+      → (assembledOutcome a ≡ accepted 0) × SameImage imageAfter words × (memoryAfter ≡ replicate dataWords 0)
+  used-returns out r after m image memory a imageAfter memoryAfter listed good image-size data-size assembled =
+      let back = listed-assembles (take n words) out r after m image memory a imageAfter memoryAfter listed good image-size data-size assembled in
+      (back .0, rw (back .1) used-image, back .2)
+
+-- With room for the text an image with known opcodes is listed, and its listing gives it back.
+pub listing-returns : ListingReturns
+listing-returns words out text image memory imageAfter memoryAfter r a whole known room listed image-size data-size assembled =
     let outcome : listedOutcome r ≡ accepted (length (listing words)) = listed .answer ∙ known-listed words (length out) (omega arith) known room in
     let back = listed-assembles words out r text (length (listing words)) image memory a imageAfter memoryAfter listed outcome image-size data-size assembled in
     record {

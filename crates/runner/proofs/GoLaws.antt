@@ -29,9 +29,9 @@ use Rattle.executor.specs.Lent.{packed}
 use Rattle.claim.proofs.Loop.{ask, Going, start, count, rest, same-length, next-put, stop}
 use Rattle.runner.specs.declared.Ended.{Ended}
 use Rattle.runner.specs.Lab.{simp, codeOf}
-use Rattle.runner.specs.Irq2Place.{PlaceOf, isAt}
+use Rattle.irq2_list.specs.Places.{PlaceOf, isAt}
 use Rattle.runner.specs.Answers.{ranOutcome, ranReason, reasonOf, EndsRun}
-use Rattle.runner.proofs.Irq2Laws.{rises, in-by-place, next-place}
+use Rattle.irq2_list.proofs.PlaceLaws.{rises, in-by-place, next-place}
 
 -- ---- the room for a cycle's lines
 

@@ -17,7 +17,7 @@ use Rattle.files.specs.Sizes.{imageWords, diskWords, sectorWords, diskSectors, 
 use Rattle.files.specs.MemoryFile.{low48, fileText, fileWords, sectorsOf}
 use Rattle.files.specs.MemoryFile.{writeOutcome as fileWrites, readOutcome as fileReads}
 use Rattle.files.specs.Irq2File.{rising}
-use Rattle.files.proofs.LayLaws.{length-text}
+use Rattle.files.proofs.PutLaws.{length-text}
 use Rattle.files.proofs.SizeLaws.{length-sectors, is-part}
 use Rattle.files.proofs.ReturnTrip.{text-written, text-read, all-words, same-image-returns, part-in-place}
 use Rattle.machine.specs.declared.Record.{Record}

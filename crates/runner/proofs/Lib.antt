@@ -1,5 +1,4 @@
 -- Laws of runs, and demand 3 of this lab.
-pub mod Irq2Laws
 pub mod TurnLaws
 pub mod GoLaws
 pub mod RegisterLaws

@@ -1,6 +1,5 @@
 -- This lab's runs, and this lab as one to which demand 3 applies.
 pub mod Lab
-pub mod Irq2Place
 pub mod Answers
 pub mod RealCalls
 pub mod Examples

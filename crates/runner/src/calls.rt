@@ -2,14 +2,14 @@
 use crate::RunAnswer;
 use crate::RunReport;
 use crate::cycles::make_cycles;
-use crate::irq2::is_rising;
 use crate::questions::are_lengths;
 use crate::registers::all_registers;
 use crate::registers::kept_registers;
+use irq2_list::is_rising;
 use machine::Record;
 use saved::is_sound;
 use text::hex_words::hex_words;
-use trace::registers::lay_registers;
+use trace::registers::put_registers;
 ghost use mathlib.Core.Path.{_≡_};
 ghost use mathlib.Core.Bool.{true};
 ghost use lib.ListN.{length};
@@ -77,7 +77,7 @@ fn run_sound(
     let mut regs = all_registers(kept);
     let mut io = state.io;
     let mut text = [0u8; 118];
-    lay_registers(&mut text, &regs, &table);
+    put_registers(&mut text, &regs, &table);
     let e = make_cycles(
         state.core,
         &mut regs,

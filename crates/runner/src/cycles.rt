@@ -1,11 +1,11 @@
 // The cycles of a run.
 use crate::Ended;
-use crate::irq2::first_awaited;
-use crate::irq2::is_awaited;
-use crate::irq2::next_awaited;
 use crate::questions::ended;
 use crate::questions::last_age;
 use crate::questions::may_cycle;
+use irq2_list::first_awaited;
+use irq2_list::is_awaited;
+use irq2_list::next_awaited;
 use machine::Core;
 use simulator::cycle::cycle;
 ghost use mathlib.Core.Path.{_≡_};
@@ -18,7 +18,7 @@ ghost use Rattle.executor.specs.Lent.{packed, HaveText, Sized};
 ghost use Rattle.runner.specs.Lab.{codeOf};
 ghost use Rattle.runner.specs.Answers.{EndsRun};
 
-// Makes cycles of a sound machine, and lays their lines into the log from its front on, until the run has a reason to stop.
+// Makes cycles of a sound machine, and puts their lines into the log from its front on, until the run has a reason to stop.
 pub fn make_cycles(
     start: Core,
     regs: &mut [u32; 16],

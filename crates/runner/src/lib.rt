@@ -5,7 +5,6 @@ use machine::Record;
 mod answers;
 mod calls;
 mod cycles;
-mod irq2;
 mod questions;
 mod registers;
 
@@ -43,10 +42,4 @@ pub struct Ended {
     pub cycles: u64,
     pub at: usize,
     pub answer: RunAnswer,
-}
-
-// The entry of the irq2 list that a run waits for: its place, and the cycle that stands there, or one that never comes.
-pub struct Awaited {
-    pub place: usize,
-    pub cycle: u64,
 }

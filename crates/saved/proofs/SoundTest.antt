@@ -8,7 +8,8 @@ use native.Mathlib.Omega.{arith}
 use lib.Dec.{eqb, ltb, leb}
 use lib.ListN.{length, getD, replicate, List·getD-eq-default}
 use borrow.Author.Tests.{eqb-true, eqb-false, leb-true, ltb-true, ltb-false, lt-ltb, le-ltb, le-leb, eq-eqb, ne-eqb, not-true}
-use Rattle.text.proofs.Truth.{and-left, and-right, below}
+use Rattle.text.proofs.TableLaws.{numbers-rule}
+use Rattle.text.proofs.Truth.{and-left, and-right}
 use Rattle.bitpack.specs.Packed.{fit}
 use Rattle.bitpack.specs.Needs.{Packs}
 use Rattle.bitpack.proofs.PackLaws.{fit-at}
@@ -18,7 +19,7 @@ use Rattle.isa.proofs.IoLaws.{no-bits-above}
 use Rattle.machine.specs.declared.Core.{Core}
 use Rattle.machine.specs.declared.Record.{Record}
 use Rattle.machine.specs.Execution.{isReadOrWrite}
-use Rattle.machine.specs.Soundness.{keptBits, FittingIo, SoundCore, SoundDisk, Sound}
+use Rattle.machine.specs.Soundness.{fieldBits, FittingIo, SoundCore, SoundDisk, Sound}
 use Rattle.saved.specs.Layout.{edition, recordBytes, ioNumbers, widths, fieldsOf}
 use Rattle.machine.proofs.SoundLaws.{sound-fresh}
 use Rattle.saved.specs.Sound.{same, isSound}
@@ -44,16 +45,16 @@ each false b c d e f g h q = absurd (false≢true q)
 
 -- ---- the widths of the registers
 
--- The width of an I/O register's field is what a record keeps of it; past the 23 both are 0.
-kept-at : (n : ℕ) → getD (map keptBits ioNumbers) n 0 ≡ keptBits n
+-- The table of the widths; past the 23 both are 0.
+field-bits-at : (n : ℕ) → getD (map fieldBits ioNumbers) n 0 ≡ fieldBits n
 unfolding ioBits
-kept-at n = go (ltb n 23) refl
+field-bits-at n = go (ltb n 23) refl
   where
-    go : (t : Bool) → ltb n 23 ≡ t → getD (map keptBits ioNumbers) n 0 ≡ keptBits n
-    go true e = eqb-true _ _ (below (λ k. eqb (getD (map keptBits ioNumbers) k 0) (keptBits k)) 23 refl n (ltb-true n 23 e))
+    go : (t : Bool) → ltb n 23 ≡ t → getD (map fieldBits ioNumbers) n 0 ≡ fieldBits n
+    go true e = numbers-rule fieldBits (map fieldBits ioNumbers) 23 refl n (ltb-true n 23 e)
     go false e =
         let past = ltb-false n 23 e in
-        rw (List·getD-eq-default (map keptBits ioNumbers) 0 past, ne-eqb n monitorcmd (λ q. omega arith), no-bits-above n past)
+        rw (List·getD-eq-default (map fieldBits ioNumbers) 0 past, ne-eqb n monitorcmd (λ q. omega arith), no-bits-above n past)
 
 -- ---- the three parts of the fields
 
@@ -71,11 +72,11 @@ scalars-fit c s =
 
 -- The fields fit where the scalars, the registers and the I/O registers do.
 fields-fit : (r : Record) → length (r .regs) ≡ 13
-    → fit widths (fieldsOf r) ≡ (fit scalarWidths (scalarsOf (r .core)) && (fit (replicate 13 32) (r .regs) && fit (map keptBits ioNumbers) (r .io)))
+    → fit widths (fieldsOf r) ≡ (fit scalarWidths (scalarsOf (r .core)) && (fit (replicate 13 32) (r .regs) && fit (map fieldBits ioNumbers) (r .io)))
 unfolding widths fieldsOf
 fields-fit r thirteen =
-    fit-parts scalarWidths (replicate 13 32 ++ map keptBits ioNumbers) (scalarsOf (r .core)) (r .regs ++ r .io) refl
-    ∙ ap (λ (t : Bool). fit scalarWidths (scalarsOf (r .core)) && t) (fit-parts (replicate 13 32) (map keptBits ioNumbers) (r .regs) (r .io) (sym thirteen))
+    fit-parts scalarWidths (replicate 13 32 ++ map fieldBits ioNumbers) (scalarsOf (r .core)) (r .regs ++ r .io) refl
+    ∙ ap (λ (t : Bool). fit scalarWidths (scalarsOf (r .core)) && t) (fit-parts (replicate 13 32) (map fieldBits ioNumbers) (r .regs) (r .io) (sym thirteen))
 
 -- ---- the disk
 
@@ -191,7 +192,7 @@ sound-yes r e =
     let rest = and-right (fit scalarWidths (scalarsOf (r .core))) _ parts in
     let registers = and-left (fit (replicate 13 32) (r .regs)) _ rest in
     let io = and-right (fit (replicate 13 32) (r .regs)) _ rest in
-    let fitting : FittingIo (r .io) = λ n. rw (kept-at n) at (fit-at (map keptBits ioNumbers) (r .io) n io) in
+    let fitting : FittingIo (r .io) = λ n. rw (field-bits-at n) at (fit-at (map fieldBits ioNumbers) (r .io) n io) in
     record {
       core =
           record {
@@ -213,7 +214,7 @@ pub sound-test : (r : Record) → Sound (r .core) (r .regs) (r .io) → isSound 
 sound-test r s =
     let k = s .core in
     let registers = fit-repeated 13 32 (r .regs) (s .thirteen) (s .registers) in
-    let io = fit-all (map keptBits ioNumbers) (r .io) (sym (s .all)) (λ i. rw (kept-at i) (s .fitting i)) in
+    let io = fit-all (map fieldBits ioNumbers) (r .io) (sym (s .all)) (λ i. rw (field-bits-at i) (s .fitting i)) in
     passing r
     (record {
       thirteen = s .thirteen;

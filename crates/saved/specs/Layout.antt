@@ -5,7 +5,7 @@ use mathlib.Core.List.{List, [], _∷_, _++_, map}
 use lib.ListN.{getD, take, drop, replicate}
 use Rattle.bitpack.specs.Packed.{packed, unpacked, bytesOf, numberOf}
 use Rattle.machine.specs.declared.Record.{Record}
-use Rattle.machine.specs.Soundness.{keptBits}
+use Rattle.machine.specs.Soundness.{fieldBits}
 
 -- "edition .. is 1"
 abbrev pub edition : ℕ
@@ -22,7 +22,7 @@ ioNumbers = 0 ∷ 1 ∷ 2 ∷ 3 ∷ 4 ∷ 5 ∷ 6 ∷ 7 ∷ 8 ∷ 9 ∷ 10 ∷ 1
 
 -- The widths of the fields.
 unfoldable pub widths : List ℕ
-widths = 8 ∷ 3 ∷ 1 ∷ 12 ∷ 40 ∷ 11 ∷ (replicate 13 32 ++ map keptBits ioNumbers)
+widths = 8 ∷ 3 ∷ 1 ∷ 12 ∷ 40 ∷ 11 ∷ (replicate 13 32 ++ map fieldBits ioNumbers)
 
 -- The fields of a record.
 unfoldable pub fieldsOf : Record → List ℕ

@@ -7,10 +7,11 @@ use long_run::print_line_e;
 use long_run::print_line_n;
 use long_run::run_budget;
 use text::Outcome;
-ghost use mathlib.Core.List.{List};
-ghost use Prim.Native.Nat.{ℕ, _≤_, _<_};
+ghost use Prim.Native.Nat.{_≤_, _<_};
 ghost use lib.ListN.{length};
-ghost use Rattle.simlog.specs.Simlog.{ImageOf, IsFront, Ran};
+ghost use Rattle.files.specs.Sizes.{imageDigits, isImageLength};
+ghost use Rattle.files.specs.Front.{FrontRead};
+ghost use Rattle.simlog.specs.Simlog.{Ran};
 
 // The bytes that decide how a file of any length is read: those of 4,096 lines, and one more.
 const FRONT: usize = 53_249;
@@ -33,7 +34,7 @@ fn main() {
 // Reads the image of a text of any length, of which the buffer holds the front in its first n bytes.
 fn read_front(buffer: &[u8], n: usize, image: &mut [u64; 4096]) -> Outcome
     requires { ⌜ (53248 < length (now buffer)) × (n ≤ length (now buffer)) ⌝ }
-    ensures { λ r. ⌜ ((whole : List ℕ) → IsFront (now (buffer .entry)) n whole → ImageOf whole r (now (image .entry)) (now (image .exit))) ⌝ }
+    ensures { λ r. ⌜ FrontRead imageDigits isImageLength (now (buffer .entry)) n r (now (image .entry)) (now (image .exit)) ⌝ }
 {
     read_image(&buffer[..n], image).outcome()
 }

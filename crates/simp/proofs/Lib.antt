@@ -4,4 +4,3 @@ pub mod AssemblyLaws
 pub mod NumberLaws
 pub mod RecordLaws
 pub mod RunLaws
-pub mod FaceDemand

@@ -39,10 +39,10 @@ listed P k l e p = subst⁻¹ P (element-by-element k l e) p
 abbrev pub fieldsIn : List ℕ → List ℕ
 fieldsIn n = 1 ∷ (take 36 n ++ 0 ∷ 0 ∷ (drop 36 n ++ 0 ∷ []))
 
--- 36 numbers laid among the fields, and then 2 more.
-laid : (x y : List ℕ) → length x ≡ 36
+-- 36 numbers put among the fields, and then 2 more.
+is-put : (x y : List ℕ) → length x ≡ 36
     → take 38 (x ++ 0 ∷ 0 ∷ 0 ∷ 0 ∷ 0 ∷ []) ++ (y ++ drop 2 (drop 38 (x ++ 0 ∷ 0 ∷ 0 ∷ 0 ∷ 0 ∷ []))) ≡ x ++ 0 ∷ 0 ∷ (y ++ 0 ∷ [])
-laid x y e =
+is-put x y e =
     listed
     (λ (l : List ℕ). take 38 (l ++ 0 ∷ 0 ∷ 0 ∷ 0 ∷ 0 ∷ []) ++ (y ++ drop 2 (drop 38 (l ++ 0 ∷ 0 ∷ 0 ∷ 0 ∷ 0 ∷ []))) ≡ l ++ 0 ∷ 0 ∷ (y ++ 0 ∷ []))
     36
@@ -51,13 +51,13 @@ laid x y e =
     refl
 
 module _ (n : List ℕ) (e : length n ≡ recordNumbers) where
-  -- The fields as the code lays them: x are the first numbers, y the last two.
-  pub laid-fields : (x y : List ℕ) → x ≡ take 36 n → y ≡ take (length n - 36) (drop 36 n)
+  -- The fields as the code puts them: x are the first numbers, y the last two.
+  pub put-fields : (x y : List ℕ) → x ≡ take 36 n → y ≡ take (length n - 36) (drop 36 n)
       → 1 ∷ (take 38 (x ++ 0 ∷ 0 ∷ 0 ∷ 0 ∷ 0 ∷ []) ++ (y ++ drop 2 (drop 38 (x ++ 0 ∷ 0 ∷ 0 ∷ 0 ∷ 0 ∷ [])))) ≡ fieldsIn n
-  laid-fields x y p q =
+  put-fields x y p q =
       let size : length x ≡ 36 = rw p (length-take-le 36 n (omega arith)) in
       let rest : y ≡ drop 36 n = q ∙ take-all (length n - 36) (drop 36 n) (simp length-drop (omega arith)) in
-      ap (λ (l : List ℕ). 1 ∷ l) (laid x y size ∙ rw (p, rest))
+      ap (λ (l : List ℕ). 1 ∷ l) (is-put x y size ∙ rw (p, rest))
 
   pub fields-length : length (fieldsIn n) ≡ 42
   fields-length = listed (λ (l : List ℕ). length (fieldsIn l) ≡ 42) 38 n e refl
@@ -85,9 +85,9 @@ fields-numbers r e =
     ap (λ (l : List ℕ). r .core .status ∷ r .core .handler ∷ r .core .pc ∷ r .core .age ∷ r .core .left ∷ l)
     (listed (λ (l : List ℕ). take 31 (l ++ r .io) ++ take 2 (drop 33 (l ++ r .io)) ≡ l ++ (take 18 (r .io) ++ take 2 (drop 20 (r .io)))) 13 (r .regs) e refl)
 
--- 36 numbers laid before the rest, and then 2 more over it.
-pub laid-numbers : (x d y : List ℕ) → length x ≡ 36 → take 36 (x ++ d) ++ (y ++ drop (length (x ++ d) - 36) (drop 36 (x ++ d))) ≡ x ++ y
-laid-numbers x d y e =
+-- 36 numbers put before the rest, and then 2 more over it.
+pub put-numbers : (x d y : List ℕ) → length x ≡ 36 → take 36 (x ++ d) ++ (y ++ drop (length (x ++ d) - 36) (drop 36 (x ++ d))) ≡ x ++ y
+put-numbers x d y e =
     let size = length-append x d in
     rw (take-at x d 36 e, drop-at x d 36 e, drop-of-length-le d {i = length (x ++ d) - 36} (omega arith), append-nil y)
 

@@ -4,4 +4,3 @@ pub mod Assembly
 pub mod Numbers
 pub mod Records
 pub mod Runs
-pub mod FaceCalls

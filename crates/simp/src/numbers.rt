@@ -5,6 +5,7 @@ use machine::Record;
 use saved::fields::fields;
 use saved::layout::EDITION;
 use saved::layout::WIDTHS;
+use words::copies::copy_long_words;
 ghost use mathlib.Core.Path.{_≡_};
 ghost use mathlib.Core.Bool.{false};
 ghost use lib.ListN.{length};
@@ -21,8 +22,8 @@ pub fn record_of(numbers: &[u64]) -> Record
 {
     let mut f: [u64; 42] = [0; 42];
     f[0] = EDITION;
-    copy_numbers(&numbers[..36], &mut f[1..37]);
-    copy_numbers(&numbers[36..], &mut f[39..41]);
+    copy_long_words(&mut f[1..37], &numbers[..36]);
+    copy_long_words(&mut f[39..41], &numbers[36..]);
     let widths = WIDTHS;
     if !all_fit(&widths, &f) {
         return unsound_record();
@@ -49,23 +50,11 @@ fn unsound_record() -> Record
 }
 
 // Sets 38 numbers to those of a record.
-pub fn lay_numbers(r: Record, numbers: &mut [u64])
+pub fn put_numbers(r: Record, numbers: &mut [u64])
     requires { ⌜ length (now numbers) ≡ recordNumbers ⌝ }
     ensures { λ _. ⌜ now (numbers .exit) ≡ numbersOf r ⌝ }
 {
     let f = fields(r);
-    copy_numbers(&f[1..37], &mut numbers[..36]);
-    copy_numbers(&f[39..41], &mut numbers[36..]);
-}
-
-// Copies numbers to as many places.
-fn copy_numbers(from: &[u64], to: &mut [u64])
-    requires { ⌜ length (now to) ≡ length (now from) ⌝ }
-    ensures { λ _. ⌜ now (to .exit) ≡ now (from .entry) ⌝ }
-{
-    let mut i = 0;
-    while i < to.len() {
-        to[i] = from[i];
-        i += 1;
-    }
+    copy_long_words(&mut numbers[..36], &f[1..37]);
+    copy_long_words(&mut numbers[36..], &f[39..41]);
 }

@@ -1,7 +1,7 @@
 // Records saved and read.
 use crate::WRONG_LENGTH;
 use crate::numbers::RECORD_NUMBERS;
-use crate::numbers::lay_numbers;
+use crate::numbers::put_numbers;
 use crate::numbers::record_of;
 use saved::load;
 use saved::save;
@@ -30,7 +30,7 @@ pub extern "C" fn simp_load(bytes: &[u8], numbers: &mut [u64]) -> u32
     let l = load(bytes);
     let answer = l.answer;
     let state = l.state;
-    lay_numbers(state, numbers);
+    put_numbers(state, numbers);
     let outcome = answer.outcome();
     outcome.number
 }

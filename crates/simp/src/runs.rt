@@ -1,7 +1,7 @@
 // A run.
 use crate::WRONG_LENGTH;
 use crate::numbers::RECORD_NUMBERS;
-use crate::numbers::lay_numbers;
+use crate::numbers::put_numbers;
 use crate::numbers::record_of;
 use machine::Record;
 use runner::run;
@@ -35,7 +35,7 @@ pub extern "C" fn simp_run(
         return WRONG_LENGTH;
     }
     if numbers.len() != RECORD_NUMBERS {
-        lay_report(0, 0, 0, report);
+        put_report(0, 0, 0, report);
         return WRONG_LENGTH;
     }
     let r = run(
@@ -51,13 +51,13 @@ pub extern "C" fn simp_run(
     let state = r.state;
     let answer = r.answer;
     let outcome = answer.outcome();
-    lay_report(r.cycles, r.bytes as u64, answer.reason(), report);
+    put_report(r.cycles, r.bytes as u64, answer.reason(), report);
     put_record(outcome.number, state, numbers);
     outcome.number
 }
 
 // Sets the three numbers of a report.
-fn lay_report(cycles: u64, bytes: u64, reason: u64, report: &mut [u64])
+fn put_report(cycles: u64, bytes: u64, reason: u64, report: &mut [u64])
     requires { ⌜ length (now report) ≡ reportNumbers ⌝ }
     ensures { λ _. ⌜ now (report .exit) ≡ (cycles ∷ bytes ∷ reason ∷ []) ⌝ }
 {
@@ -72,6 +72,6 @@ fn put_record(number: u32, state: Record, numbers: &mut [u64])
     ensures { λ _. ⌜ now (numbers .exit) ≡ cond (eqb number 0) (numbersOf state) (now (numbers .entry)) ⌝ }
 {
     if number == 0 {
-        lay_numbers(state, numbers);
+        put_numbers(state, numbers);
     }
 }

@@ -19,7 +19,7 @@ ghost use mathlib.Core.List.{List, _++_};
 ghost use Prim.Native.Nat.{ℕ, _+_, _/_, _%_, _^_, _≤_, _<_};
 ghost use lib.ListN.{length, getD, drop};
 ghost use Rattle.text.specs.Numerals.{HexWords};
-ghost use Rattle.text.specs.Place.{put};
+ghost use Rattle.text.specs.Place.{put, Puts};
 ghost use Rattle.isa.specs.Word.{Fitting as FieldsFit, signExtended};
 ghost use Rattle.isa.specs.Operations.{operationOf};
 ghost use Rattle.trace.specs.LogLines.{lineT};
@@ -31,7 +31,7 @@ ghost use Rattle.machine.specs.Log.{ioLines, linesAtFetch, traced, tracedOn};
 ghost use Rattle.machine.specs.Soundness.{Sound};
 ghost use Rattle.executor.specs.Lent.{packed, HaveText, Sized, Ready};
 
-// Makes one cycle and lays its lines into the log at a place. `hit`: the age is in the irq2 list. The prefix is made valid for the cycle. Whether the machine may make a cycle, and
+// Makes one cycle and puts its lines into the log at a place. `hit`: the age is in the irq2 list. The prefix is made valid for the cycle. Whether the machine may make a cycle, and
 // whether its lines fit, a run asks first.
 pub fn cycle(
     c: Core,
@@ -130,7 +130,7 @@ pub fn read_operands(f: Fields, regs: &mut [u32; 16]) -> Operands
     }
 }
 
-// Lays the lines of an instruction: T, and H, L and D where it has them.
+// Puts the lines of an instruction: T, and H, L and D where it has them.
 fn put_lines(
     log: &mut [u8],
     at: usize,
@@ -146,7 +146,7 @@ fn put_lines(
 ) -> usize
     requires { ⌜ (at + length (lineT (c .pc) word (now regs) ++ ioLines (c .age) (operationOf op) o (now io)) ≤ length (now log)) × (HaveText (now regs) (now text) × (HexWords (now table) × ValidFor (c .age) (now prefix))) ⌝ }
     requires { ⌜ (getD (now regs) 1 0 ≡ signExtended (word / 2 ^ 12 % 2 ^ 12)) × (getD (now regs) 2 0 ≡ signExtended (word % 2 ^ 12)) ⌝ }
-    ensures { λ r. ⌜ (now (log .exit) ≡ put (now (log .entry)) at (lineT (c .pc) word (now (regs .entry)) ++ ioLines (c .age) (operationOf op) o (now (io .entry)))) × (r ≡ at + length (lineT (c .pc) word (now (regs .entry)) ++ ioLines (c .age) (operationOf op) o (now (io .entry)))) ⌝ }
+    ensures { λ r. ⌜ Puts (now (log .entry)) at (lineT (c .pc) word (now (regs .entry)) ++ ioLines (c .age) (operationOf op) o (now (io .entry))) r (now (log .exit)) ⌝ }
 {
     let line = put_line_t(log, at, c.pc, word, text, table);
     put_io_lines(log, line, c.age, op, o, io, table, prefix)

@@ -8,20 +8,19 @@ use machine::Operands;
 use trace::log_lines::put_line_h;
 use trace::log_lines::put_line_ld;
 use words::arithmetic::plus;
-ghost use mathlib.Core.Path.{_≡_};
 ghost use mathlib.Core.Bool.{cond, not};
 ghost use mathlib.Core.List.{[], _∷_};
 ghost use Prim.Native.Nat.{_+_, _≤_};
 ghost use lib.Dec.{eqb};
 ghost use lib.ListN.{length};
 ghost use Rattle.text.specs.Numerals.{HexWords};
-ghost use Rattle.text.specs.Place.{put};
+ghost use Rattle.text.specs.Place.{Puts};
 ghost use Rattle.isa.specs.Operations.{operationOf, input, output};
 ghost use Rattle.trace.specs.LogLines.{lineLD};
 ghost use Rattle.trace.specs.Prefixes.{ValidFor};
 ghost use Rattle.machine.specs.Log.{changeLines, ioLines};
 
-// Lays the lines of an instruction at a place and returns the place after them; `c` is the cycle, which the prefix is valid for.
+// Puts the lines of an instruction at a place and returns the place after them; `c` is the cycle, which the prefix is valid for.
 pub fn put_io_lines(
     log: &mut [u8],
     at: usize,
@@ -33,7 +32,7 @@ pub fn put_io_lines(
     prefix: &[u64; 7],
 ) -> usize
     requires { ⌜ (at + length (ioLines c (operationOf op) o (now io)) ≤ length (now log)) × (HexWords (now table) × ValidFor c (now prefix)) ⌝ }
-    ensures { λ r. ⌜ (now (log .exit) ≡ put (now (log .entry)) at (ioLines c (operationOf op) o (now (io .entry)))) × (r ≡ at + length (ioLines c (operationOf op) o (now (io .entry)))) ⌝ }
+    ensures { λ r. ⌜ Puts (now (log .entry)) at (ioLines c (operationOf op) o (now (io .entry))) r (now (log .exit)) ⌝ }
 {
     match op {
         IN => put_read_line(log, at, c, o, io, table, prefix),
@@ -53,7 +52,7 @@ fn put_read_line(
     prefix: &[u64; 7],
 ) -> usize
     requires { ⌜ (at + length (ioLines c input o (now io)) ≤ length (now log)) × (HexWords (now table) × ValidFor c (now prefix)) ⌝ }
-    ensures { λ r. ⌜ (now (log .exit) ≡ put (now (log .entry)) at (ioLines c input o (now (io .entry)))) × (r ≡ at + length (ioLines c input o (now (io .entry)))) ⌝ }
+    ensures { λ r. ⌜ Puts (now (log .entry)) at (ioLines c input o (now (io .entry))) r (now (log .exit)) ⌝ }
 {
     let a = plus(o.rs, o.rt);
     if is_listed(a) {
@@ -73,7 +72,7 @@ fn put_write_lines(
     prefix: &[u64; 7],
 ) -> usize
     requires { ⌜ (at + length (ioLines c output o (now io)) ≤ length (now log)) × (HexWords (now table) × ValidFor c (now prefix)) ⌝ }
-    ensures { λ r. ⌜ (now (log .exit) ≡ put (now (log .entry)) at (ioLines c output o (now (io .entry)))) × (r ≡ at + length (ioLines c output o (now (io .entry)))) ⌝ }
+    ensures { λ r. ⌜ Puts (now (log .entry)) at (ioLines c output o (now (io .entry))) r (now (log .exit)) ⌝ }
 {
     let a = plus(o.rs, o.rt);
     if is_listed(a) {
@@ -95,7 +94,7 @@ fn put_change_line(
     prefix: &[u64; 7],
 ) -> usize
     requires { ⌜ (at + length (changeLines c n x (now io)) ≤ length (now log)) × (HexWords (now table) × ValidFor c (now prefix)) ⌝ }
-    ensures { λ r. ⌜ (now (log .exit) ≡ put (now (log .entry)) at (changeLines c n x (now (io .entry)))) × (r ≡ at + length (changeLines c n x (now (io .entry)))) ⌝ }
+    ensures { λ r. ⌜ Puts (now (log .entry)) at (changeLines c n x (now (io .entry))) r (now (log .exit)) ⌝ }
 {
     match n {
         9 => put_if_new(log, at, b'L', c, x, io[LEDS], table, prefix),
@@ -116,7 +115,7 @@ fn put_if_new(
     prefix: &[u64; 7],
 ) -> usize
     requires { ⌜ (at + length (cond (not (eqb x before)) (lineLD (letter ∷ []) c x) []) ≤ length (now log)) × (HexWords (now table) × ValidFor c (now prefix)) ⌝ }
-    ensures { λ r. ⌜ (now (log .exit) ≡ put (now (log .entry)) at (cond (not (eqb x before)) (lineLD (letter ∷ []) c x) [])) × (r ≡ at + length (cond (not (eqb x before)) (lineLD (letter ∷ []) c x) [])) ⌝ }
+    ensures { λ r. ⌜ Puts (now (log .entry)) at (cond (not (eqb x before)) (lineLD (letter ∷ []) c x) []) r (now (log .exit)) ⌝ }
 {
     if x == before {
         return at;

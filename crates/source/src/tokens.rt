@@ -7,7 +7,7 @@ ghost use lib.ListN.{length, getD, drop};
 ghost use Rattle.source.specs.Tokens.{closes, follows, isJoined};
 ghost use Rattle.source.specs.Spans.{Begins, StartsAt, EndsAt, TokenAt, Split};
 
-// Splits a line into its tokens: lays the start and the end of each into `places`, as many as it has room for, and returns their number.
+// Splits a line into its tokens: puts the start and the end of each into `places`, as many as it has room for, and returns their number.
 pub fn split(line: &[u8], places: &mut [usize]) -> usize
     ensures { λ r. ⌜ (Split (now (line .entry)) (now (places .exit)) r) × (length (now (places .exit)) ≡ length (now (places .entry))) ⌝ }
 {

@@ -1,4 +1,4 @@
--- The lines E and N, as the code lays their pieces, and how long they are. Assumes nothing.
+-- The lines E and N, as the code puts their pieces, and how long they are. Assumes nothing.
 use Prim.Native.Char.{code}
 use Prim.Native.Nat.{ℕ, _+_, _^_, _≤_, _<_}
 use mathlib.Core.Path.{_≡_, refl, sym, _∙_, ap}
@@ -42,29 +42,29 @@ short-N number line hn hl = rw length-N (omega (arith, few number hn, few line h
 
 -- ---- their pieces
 
--- A letter is stored and a number laid after it, ..
-pub letter-laid : (letter v at : ℕ) (d e : List ℕ) → e ≡ put (set d at letter) (at + 1) (field (decimal v)) → e ≡ put d at (letter ∷ field (decimal v))
-letter-laid letter v at d e p = after-store d e at (at + 1) letter (field (decimal v)) refl p
+-- A letter is stored and a number put after it, ..
+pub letter-put : (letter v at : ℕ) (d e : List ℕ) → e ≡ put (set d at letter) (at + 1) (field (decimal v)) → e ≡ put d at (letter ∷ field (decimal v))
+letter-put letter v at d e p = after-store d e at (at + 1) letter (field (decimal v)) refl p
 
 -- .. then, in line E, a second and a last one, ..
-pub line-e-laid : (status age at p q : ℕ) (d e f g : List ℕ) → p ≡ at + 1 + 1 + digitCount 10 status → q ≡ p + 1 + digitCount 10 age
+pub line-e-put : (status age at p q : ℕ) (d e f g : List ℕ) → p ≡ at + 1 + 1 + digitCount 10 status → q ≡ p + 1 + digitCount 10 age
     → e ≡ put (set d at (code "E")) (at + 1) (field (decimal status)) → f ≡ put e p (field (decimal age))
     → g ≡ put f q (field (decimal (milliseconds age)) ++ (LF ∷ []))
     → g ≡ put d at (lineE status age)
 unfolding lineE
-line-e-laid status age at p q d e f g pe qe first second last =
+line-e-put status age at p q d e f g pe qe first second last =
     let front = code "E" ∷ field (decimal status) in
     more d f g at q (front ++ field (decimal age)) _ (simp (length-append, length-decimal) (omega arith))
-    (more d e f at p front _ (simp length-decimal (omega arith)) (letter-laid (code "E") status at d e first) second)
+    (more d e f at p front _ (simp length-decimal (omega arith)) (letter-put (code "E") status at d e first) second)
     last
     ∙ ap (put d at) (sym (append-assoc (front ++ field (decimal age)) (field (decimal (milliseconds age))) (LF ∷ [])))
 
 -- .. and in line N the last.
-pub line-n-laid : (number line at p : ℕ) (d e f : List ℕ) → p ≡ at + 1 + 1 + digitCount 10 number
+pub line-n-put : (number line at p : ℕ) (d e f : List ℕ) → p ≡ at + 1 + 1 + digitCount 10 number
     → e ≡ put (set d at (code "N")) (at + 1) (field (decimal number)) → f ≡ put e p (field (decimal line) ++ (LF ∷ []))
     → f ≡ put d at (lineN number line)
 unfolding lineN
-line-n-laid number line at p d e f pe first last =
+line-n-put number line at p d e f pe first last =
     let front = code "N" ∷ field (decimal number) in
-    more d e f at p front _ (simp length-decimal (omega arith)) (letter-laid (code "N") number at d e first) last
+    more d e f at p front _ (simp length-decimal (omega arith)) (letter-put (code "N") number at d e first) last
     ∙ ap (put d at) (sym (append-assoc front (field (decimal line)) (LF ∷ [])))

@@ -110,7 +110,7 @@ fn key_of(t: &[u8]) -> u32
     key as u32
 }
 
-// Whether the name t, of which this is the key, is that of the last entry of its slot that was put on a chain.
+// True only where the name t, of which this is the key, is among the names: it looks at the last entry of its slot alone, to answer sooner.
 fn is_recent(source: &[u8], table: &[u32], count: usize, key: u32, t: &[u8]) -> bool
     requires { ⌜ Sound (now source) (now table) count × (key ≡ keyOf (now t)) ⌝ }
     ensures { λ r. ⌜ (r ≡ true → isAmong (namesOf (now (source .entry)) (now (table .entry)) count) (now (t .entry)) ≡ true) ⌝ }

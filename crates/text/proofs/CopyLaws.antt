@@ -1,11 +1,11 @@
 -- A list copied number by number to a list as long. Assumes nothing.
 use Prim.Native.Nat.{ℕ, _+_, _≤_, _<_}
-use mathlib.Core.Path.{_≡_, _∙_}
+use mathlib.Core.Path.{_≡_}
 use mathlib.Core.List.{List}
 use native.Mathlib.Omega.{arith}
 use lib.ListN.{length, getD, set, length-set}
-use lib.Seq.{ext-getD, getD-set-same, getD-set-other}
-use borrow.Author.Count.{below-more}
+use lib.Seq.{ext-getD}
+use Rattle.text.proofs.TableLaws.{filled-more}
 
 -- The first i numbers are copied.
 pub record Copying (from to : List ℕ) (i : ℕ) : Type 0 where
@@ -21,11 +21,7 @@ module _ {from to : List ℕ} where
     turned x e h =
         record {
           room = simp length-set (p .room);
-          done =
-              below-more (λ (k : ℕ). getD (set to i x) k 0 ≡ getD from k 0)
-              i
-              (λ k l. getD-set-other to i k x 0 (λ q. omega arith) ∙ p .done k l)
-              (getD-set-same to i x 0 h ∙ e);
+          done = filled-more (λ k. getD from k 0) to i x h e (p .done);
         }
 
     pub finished : length to ≤ i → to ≡ from

@@ -4,9 +4,9 @@ pub mod QuestionLaws
 pub mod PutLaws
 pub mod PieceLaws
 pub mod RangeLaws
+pub mod TableLaws
 pub mod CopyLaws
 pub mod DigitLaws
-pub mod TableLaws
 pub mod WriteLaws
 pub mod HexWordLaws
 pub mod DecimalLaws

@@ -1,17 +1,22 @@
 -- Laws of bytes laid at a place. Assumes nothing.
-use Prim.Native.Nat.{ℕ, suc, _+_, _≤_, _<_}
+use Prim.Native.Nat.{ℕ, suc, _+_, _-_, _≤_, _<_}
 use mathlib.Core.Path.{_≡_, refl, sym, _∙_, ap}
-use mathlib.Core.List.{List, [], _∷_, _++_, append-nil}
+use mathlib.Core.List.{List, [], _∷_, _++_, append-assoc, append-nil}
 use native.Mathlib.Nat.{add-zero, add-suc, suc-add, zero-add}
 use native.Mathlib.Omega.{arith}
 use native.Mathlib.Numerals.{add-one}
-use lib.ListN.{getD, drop-of-length-le, length, drop, set}
+use lib.ListN.{getD, drop-of-length-le, length, take, drop, set}
 use lib.Seq.{drop-cons, sets-eq, length-sets, set-comm}
-use Rattle.text.specs.Place.{put}
+use borrow.Rule.Slice.PartMut.{putMid, post-is}
+use Rattle.text.specs.Place.{put, Puts}
 
 pub put-nil : (d : List ℕ) (at : ℕ) → put d at [] ≡ d
 unfolding put
 put-nil d at = refl
+
+-- What has no bytes puts nothing.
+pub puts-nothing : (out : List ℕ) (at : ℕ) (xs : List ℕ) → xs ≡ [] → Puts out at xs at out
+puts-nothing out at xs e = rw e (sym (put-nil out at), sym (add-zero at))
 
 pub put-one : (d : List ℕ) (at x : ℕ) → put d at (x ∷ []) ≡ set d at x
 unfolding put
@@ -54,6 +59,12 @@ pub put-all : (d xs : List ℕ) → length xs ≡ length d → put d 0 xs ≡ xs
 put-all d xs e =
     let all : length d ≤ length xs = omega arith in
     put-front d xs (omega arith) ∙ rw (drop-of-length-le d all, append-nil xs)
+
+-- A part of a list that is lent and comes back as other numbers, as many.
+pub put-part : (d ys : List ℕ) (at n : ℕ) → length ys ≡ n → at + n ≤ length d → putMid at (at + n - at) d ys ≡ put d at ys
+unfolding put
+put-part d ys at n e h =
+    ap (λ (z : List ℕ). take at d ++ (ys ++ z)) (post-is at (at + n) d (omega arith)) ∙ rw (← e, ← append-assoc) (sym (sets-eq ys d at (omega arith)))
 
 -- A turn of a copy: the element i of xs is stored.
 module _ (d xs : List ℕ) (at i : ℕ) where

@@ -1,8 +1,9 @@
 -- Comparing bytes, one after the other. Assumes nothing.
-use Prim.Native.Nat.{ℕ, suc, _+_, _≤_, _<_}
+use Prim.Native.Nat.{ℕ, suc, _+_, _-_, _*_, _≤_, _<_}
 use mathlib.Core.Path.{_≡_, refl, sym, _∙_, ap}
 use mathlib.Core.Bool.{Bool, true, false, _&&_, false≢true}
 use mathlib.Core.List.{List, [], _∷_}
+use native.Mathlib.Nat.{add-sub-cancel-left}
 use native.Mathlib.Numerals.{add-one}
 use native.Mathlib.Omega.{arith}
 use lib.Dec.{eqb, ltb}
@@ -26,6 +27,18 @@ same-equal (b ∷ s) (c ∷ t) e =
 -- A table of texts: a test computed over its n entries gives the rule at each.
 pub table-rule : (entry rule : ℕ → List ℕ) (n : ℕ) → allBelow (λ k. same (entry k) (rule k)) n ≡ true → (k : ℕ) → k < n → entry k ≡ rule k
 table-rule entry rule n e k h = same-equal (entry k) (rule k) (below (λ k. same (entry k) (rule k)) n e k h)
+
+-- The same where each text is filled up in its row, the rows being lists, ..
+module _ (rule : ℕ → List ℕ) (n : ℕ) where
+  pub rows-rule : (rows : List (List ℕ)) (d : List ℕ) → allBelow (λ k. same (take (length (rule k)) (getD rows k d)) (rule k)) n ≡ true
+      → (k : ℕ) → k < n → take (length (rule k)) (getD rows k d) ≡ rule k
+  rows-rule rows d = table-rule (λ k. take (length (rule k)) (getD rows k d)) rule n
+
+  -- .. or parts of one list, of w bytes each: the part of the row k that the text fills, as code takes it.
+  pub parts-rule : (w : ℕ) (t : List ℕ) → allBelow (λ k. same (take (length (rule k)) (drop (k * w) t)) (rule k)) n ≡ true
+      → (k size : ℕ) → k < n → size ≡ length (rule k) → take (k * w + size - k * w) (drop (k * w) t) ≡ rule k
+  parts-rule w t e k size h s =
+      rw (add-sub-cancel-left (k * w) size, s) (table-rule (λ k. take (length (rule k)) (drop (k * w) t)) rule n e k h)
 
 -- Lists of other lengths are not the same.
 pub other-length : (s t : List ℕ) → (length s ≡ length t → ⊥) → false ≡ same s t

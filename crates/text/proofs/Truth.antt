@@ -20,6 +20,11 @@ pub neither : (a b : Bool) → (a || b) ≡ false → (a ≡ false) × (b ≡ fa
 neither true b e = absurd (false≢true (sym e))
 neither false b e = (refl, e)
 
+-- What holds of two things holds of the one that a test picks.
+pub either : {A : Type 0} (P : A → Type 0) (t : Bool) {x y : A} → P x → P y → P (cond t x y)
+either P true p q = p
+either P false p q = q
+
 -- A difference compared is a sum compared.
 pub leb-sub : (a p n : ℕ) → p ≤ n → leb a (n - p) ≡ leb (p + a) n
 leb-sub a p n h = go (leb (p + a) n) refl

@@ -1,39 +1,63 @@
 -- Laws of digits that are written from the last to the first. Assumes nothing.
 use Prim.Native.Nat.{ℕ, suc, _+_, _-_, _*_, _/_, _%_, _^_, _≤_, _<_}
-use mathlib.Core.Path.{_≡_, sym, _∙_, ap}
+use mathlib.Core.Path.{_≡_, refl, sym, _∙_, ap}
 use mathlib.Core.List.{List}
 use native.Mathlib.Nat.{mod-eq-of-lt, add-mul-mod-self-right, add-mul-div-right, div-eq-of-lt, zero-add}
 use native.Mathlib.Omega.{arith}
 use native.Mathlib.Numerals.{add-one}
-use lib.ListN.{set}
+use lib.ListN.{length, set, length-set}
 use Rattle.text.specs.Numerals.{digit, digits}
 use Rattle.text.specs.Place.{put}
 use Rattle.text.proofs.PutLaws.{put-nil, put-one, put-before}
 use Rattle.text.proofs.DigitLaws.{digit-lt, digits-split, length-digits}
 
-module _ (b : ℕ) (some : 0 < b) (out e : List ℕ) (at n v : ℕ) where
-  -- The last k of n digits lie there: what is left are the digits before them.
-  pub write-last : (k : ℕ) → k ≤ n → e ≡ put out (at + (n - k)) (digits b k (v % b ^ k)) → put e at (digits b (n - k) (v / b ^ k)) ≡ put out at (digits b n v)
-  write-last k h q =
-      let whole : n ≡ n - k + k = omega arith in
-      rw (q, put-before out at (n - k) (digits b (n - k) (v / b ^ k)) _ (length-digits b (n - k) (v / b ^ k)), ← digits-split b some (n - k) k v, ← whole)
+-- k digits of v are written at a place of the list `old`, from the last on: `out` has those that are written, and what is left to write are
+-- the `left` digits of `rest`.
+pub record Writing (b : ℕ) (old : List ℕ) (at k v : ℕ) (out : List ℕ) (left rest : ℕ) : Type 0 where
+  pub is : put out at (digits b left rest) ≡ put old at (digits b k v)
+  pub room : length out ≡ length old
+  pub within : left ≤ k
 
-  -- The same where the last digit was stored.
-  pub write-one : 1 ≤ n → e ≡ set out (at + (n - 1)) (digit (v % b)) → put e at (digits b (n - 1) (v / b)) ≡ put out at (digits b n v)
+pub none-written : {b : ℕ} {old : List ℕ} {at k v : ℕ} → Writing b old at k v old k v
+none-written = record { is = refl; room = refl; within = omega arith }
+
+module _ {b : ℕ} {old : List ℕ} {at k v : ℕ} {out : List ℕ} {left rest : ℕ} (w : Writing b old at k v out left rest) where
+  -- The last j of the digits that are left.
+  pub last-written : 0 < b → (j : ℕ) → j ≤ left → (e : List ℕ) → length e ≡ length out → e ≡ put out (at + (left - j)) (digits b j (rest % b ^ j))
+      → Writing b old at k v e (left - j) (rest / b ^ j)
+  last-written some j h e size q =
+      let whole : left ≡ left - j + j = omega arith in
+      let front = digits b (left - j) (rest / b ^ j) in
+      let within = w .within in
+      record {
+        is = rw (q, put-before out at (left - j) front _ (length-digits b (left - j) (rest / b ^ j)), ← digits-split b some (left - j) j rest, ← whole) (w .is);
+        room = size ∙ w .room;
+        within = omega arith;
+      }
+
+  -- The last of them, by a store.
+  pub one-written : 1 ≤ left → (x : ℕ) → x ≡ digit (rest % b) → Writing b old at k v (set out (at + (left - 1)) x) (left - 1) (rest / b)
   unfolding digits
-  write-one h q =
-      let whole : n ≡ suc (n - 1) = omega arith in
-      rw (q, ← put-one out (at + (n - 1)) (digit (v % b)), put-before out at (n - 1) (digits b (n - 1) (v / b)) _ (length-digits b (n - 1) (v / b)))
-      (ap (λ (k : ℕ). put out at (digits b k v)) (sym whole))
+  one-written h x e =
+      let whole : suc (left - 1) ≡ left = omega arith in
+      let front = digits b (left - 1) (rest / b) in
+      let within = w .within in
+      record {
+        is =
+            rw (e, ← put-one out (at + (left - 1)) (digit (rest % b)), put-before out at (left - 1) front _ (length-digits b (left - 1) (rest / b)))
+            (ap (λ (n : ℕ). put out at (digits b n rest)) whole ∙ w .is);
+        room = simp length-set (w .room);
+        within = omega arith;
+      }
 
--- No digit is left to write, or one.
-pub write-none : (b : ℕ) (out : List ℕ) (at n v : ℕ) → n ≡ 0 → out ≡ put out at (digits b n v)
-unfolding digits
-write-none b out at n v q = rw (q, put-nil)
+  -- One is left, and it is stored; or none.
+  pub first-written : left ≡ 1 → (x : ℕ) → x ≡ digit (rest % b) → set out at x ≡ put old at (digits b k v)
+  unfolding digits
+  first-written q x e = rw (e, ← put-one out at (digit (rest % b))) (ap (λ (n : ℕ). put out at (digits b n rest)) (sym q) ∙ w .is)
 
-pub write-single : (b : ℕ) (out : List ℕ) (at n v x : ℕ) → n ≡ 1 → x ≡ digit (v % b) → set out at x ≡ put out at (digits b n v)
-unfolding digits
-write-single b out at n v x q e = rw (q, put-one, e)
+  pub all-written : left ≡ 0 → out ≡ put old at (digits b k v)
+  unfolding digits
+  all-written q = sym (put-nil out at) ∙ ap (λ (n : ℕ). put out at (digits b n rest)) (sym q) ∙ w .is
 
 -- A pair of digits out of the table's entry.
 pub write-pair : (out : List ℕ) (at n p : ℕ) → n < 256 → p ≡ digit (n / 16) + digit (n % 16) * 256

@@ -66,10 +66,10 @@ two-lines : unlines ((bytes "A") ∷ [] ∷ []) ≡ bytes "A\n\n"
 unfolding unlines
 two-lines = refl
 
--- Two bytes laid at place 1 of four.
-laid : put (1 ∷ 2 ∷ 3 ∷ 4 ∷ []) 1 (8 ∷ 9 ∷ []) ≡ 1 ∷ 8 ∷ 9 ∷ 4 ∷ []
+-- Two bytes put at place 1 of four.
+put-at-1 : put (1 ∷ 2 ∷ 3 ∷ 4 ∷ []) 1 (8 ∷ 9 ∷ []) ≡ 1 ∷ 8 ∷ 9 ∷ 4 ∷ []
 unfolding put
-laid = refl
+put-at-1 = refl
 
 -- The first no decides, and the first bad line.
 second-question : firstNo ((1, true) ∷ (16, false) ∷ (15, false) ∷ []) 0 (accepted 7) ≡ refused 16 0

@@ -45,7 +45,7 @@ fn long_digit_count(v: u64) -> usize
     }
 }
 
-// Lays v in decimal at a place and returns the place after it.
+// Puts v in decimal at a place and returns the place after it.
 pub fn put_decimal(out: &mut [u8], at: usize, v: u64) -> usize
     requires { ⌜ at + digitCount 10 v ≤ length (now out) ⌝ }
     ensures { λ r. ⌜ (now (out .exit) ≡ put (now (out .entry)) at (decimal v)) × (r ≡ at + digitCount 10 v) ⌝ }
@@ -59,7 +59,7 @@ pub fn put_decimal(out: &mut [u8], at: usize, v: u64) -> usize
     at + n
 }
 
-// Lays the k low decimal digits of a word at a place, two at a time.
+// Puts the k low decimal digits of a word at a place, two at a time.
 fn put_word_digits(out: &mut [u8], at: usize, k: usize, v: u32)
     requires { ⌜ at + k ≤ length (now out) ⌝ }
     ensures { λ _. ⌜ now (out .exit) ≡ put (now (out .entry)) at (digits 10 k v) ⌝ }
@@ -76,7 +76,7 @@ fn put_word_digits(out: &mut [u8], at: usize, k: usize, v: u32)
     }
 }
 
-// Lays the two decimal digits of a number below 100 at a place.
+// Puts the two decimal digits of a number below 100 at a place.
 fn put_two_digits(out: &mut [u8], at: usize, n: u32)
     requires { ⌜ (at + 2 ≤ length (now out)) × (n < 100) ⌝ }
     ensures { λ _. ⌜ now (out .exit) ≡ put (now (out .entry)) at (digits 10 2 n) ⌝ }
@@ -85,7 +85,7 @@ fn put_two_digits(out: &mut [u8], at: usize, n: u32)
     out[at + 1] = digit((n % 10) as u8);
 }
 
-// Lays the k low decimal digits of v at a place.
+// Puts the k low decimal digits of v at a place.
 pub fn put_decimal_digits(out: &mut [u8], at: usize, k: usize, v: u64)
     requires { ⌜ at + k ≤ length (now out) ⌝ }
     ensures { λ _. ⌜ now (out .exit) ≡ put (now (out .entry)) at (digits 10 k v) ⌝ }

@@ -65,7 +65,7 @@ pub fn hex_pair(n: u8) -> u16
     digit(n / 16) as u16 + digit(n % 16) as u16 * 256
 }
 
-// Lays the k low hexadecimal digits of v at a place.
+// Puts the k low hexadecimal digits of v at a place.
 pub fn put_hex(out: &mut [u8], at: usize, k: usize, v: u64, pairs: &[u16; 256])
     requires { ⌜ (at + k ≤ length (now out)) × HexPairs (now pairs) ⌝ }
     ensures { λ _. ⌜ now (out .exit) ≡ put (now (out .entry)) at (digits 16 k v) ⌝ }
@@ -82,7 +82,7 @@ pub fn put_hex(out: &mut [u8], at: usize, k: usize, v: u64, pairs: &[u16; 256])
     }
 }
 
-// Lays the two hexadecimal digits of a byte at a place.
+// Puts the two hexadecimal digits of a byte at a place.
 pub fn put_pair(out: &mut [u8], at: usize, n: usize, pairs: &[u16; 256])
     requires { ⌜ (at + 2 ≤ length (now out)) × ((n < 256) × HexPairs (now pairs)) ⌝ }
     ensures { λ _. ⌜ now (out .exit) ≡ put (now (out .entry)) at (digits 16 2 n) ⌝ }

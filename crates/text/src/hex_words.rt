@@ -77,7 +77,7 @@ fn wide_pair(one: &[u64; 16], n: usize) -> u64
     one[n / 16] + one[n % 16] * 256
 }
 
-// Lays the two hexadecimal digits of a byte at a place.
+// Puts the two hexadecimal digits of a byte at a place.
 pub fn put_hex_byte(out: &mut [u8], at: usize, n: usize, words: &[u64; 1024])
     requires { ⌜ (at + 2 ≤ length (now out)) × ((n < 256) × HexWords (now words)) ⌝ }
     ensures { λ _. ⌜ now (out .exit) ≡ put (now (out .entry)) at (digits 16 2 n) ⌝ }
@@ -85,7 +85,7 @@ pub fn put_hex_byte(out: &mut [u8], at: usize, n: usize, words: &[u64; 1024])
     put_two(out, at, words[n]);
 }
 
-// Lays the eight hexadecimal digits of a word at a place.
+// Puts the eight hexadecimal digits of a word at a place.
 pub fn put_hex_word(out: &mut [u8], at: usize, x: u32, words: &[u64; 1024])
     requires { ⌜ (at + 8 ≤ length (now out)) × HexWords (now words) ⌝ }
     ensures { λ _. ⌜ now (out .exit) ≡ put (now (out .entry)) at (digits 16 8 x) ⌝ }
@@ -113,7 +113,7 @@ fn join(a: u64, b: u64, c: u64, d: u64) -> u64
     a + b + c + d
 }
 
-// Lays the eight bytes of a number at a place, the lowest first: they become one store.
+// Puts the eight bytes of a number at a place, the lowest first: they become one store.
 pub fn put_eight(out: &mut [u8], at: usize, v: u64)
     requires { ⌜ at + 8 ≤ length (now out) ⌝ }
     ensures { λ _. ⌜ now (out .exit) ≡ put (now (out .entry)) at (lowBytes 8 v) ⌝ }
@@ -124,7 +124,7 @@ pub fn put_eight(out: &mut [u8], at: usize, v: u64)
     put_two(out, at + 6, v / 0x1_0000_0000_0000);
 }
 
-// Lays the two low bytes of a number at a place, the lowest first.
+// Puts the two low bytes of a number at a place, the lowest first.
 pub fn put_two(out: &mut [u8], at: usize, v: u64)
     requires { ⌜ at + 2 ≤ length (now out) ⌝ }
     ensures { λ _. ⌜ now (out .exit) ≡ put (now (out .entry)) at (lowBytes 2 v) ⌝ }

@@ -1,4 +1,4 @@
--- The log's lines, as the code lays their pieces. Assumes nothing.
+-- The log's lines, as the code puts their pieces. Assumes nothing.
 use Prim.Native.Char.{code}
 use Prim.Native.Nat.{ℕ, _+_, _-_, _*_, _/_, _%_, _^_, _≤_, _<_}
 use mathlib.Core.Path.{_≡_, refl, sym, _∙_, ap}
@@ -66,12 +66,12 @@ code-digits w =
     (ap (λ (l : List ℕ). l ++ digits 16 8 (w % 2 ^ 32)) (sym (digits-split 16 (omega arith) 2 2 (w / 2 ^ 32)))
     ∙ sym (digits-split 16 (omega arith) 4 8 w))
 
--- The front, laid in three pieces: its first eight bytes, the registers rd and rs, and the last eight digits.
-pub instruction-laid : (pc w at : ℕ) (d e f g : List ℕ)
+-- The front, put in three pieces: its first eight bytes, the registers rd and rs, and the last eight digits.
+pub instruction-put : (pc w at : ℕ) (d e f g : List ℕ)
     → e ≡ put d at (bytes "T" ++ field (digits 16 3 pc) ++ field (digits 16 2 (w / 2 ^ 40 % 256)))
     → f ≡ put e (at + 8) (digits 16 2 (w / 2 ^ 32 % 256)) → g ≡ put f (at + 10) (digits 16 8 (w % 2 ^ 32))
     → g ≡ put d at (front pc w)
-instruction-laid pc w at d e f g p q r =
+instruction-put pc w at d e f g p q r =
     let first = bytes "T" ++ field (digits 16 3 pc) in
     let op = digits 16 2 (w / 2 ^ 40 % 256) in
     let next = digits 16 2 (w / 2 ^ 32 % 256) in
@@ -115,12 +115,12 @@ module _ (word low : ℕ) (e : lowBytes 8 low ≡ digits 16 8 (word % 2 ^ 32)) w
 abbrev three : ℕ → ℕ → ℕ → List ℕ
 three a b c = field (digits 16 8 a) ++ field (digits 16 8 b) ++ field (digits 16 8 c)
 
--- R0 and the space after it are laid at once, the digits of the others after them.
-pub low-registers-laid : (xs ys : List ℕ) (at : ℕ) (d e f g : List ℕ) → length xs ≡ 8
+-- R0 and the space after it are put at once, the digits of the others after them.
+pub low-registers-put : (xs ys : List ℕ) (at : ℕ) (d e f g : List ℕ) → length xs ≡ 8
     → e ≡ put d at (bytes " 00000000 ") → f ≡ put e (at + 10) xs → g ≡ put (set f (at + 18) (code " ")) (at + 19) ys
     → g ≡ put d at (field (digits 16 8 0) ++ field xs ++ field ys)
 unfolding digits
-low-registers-laid xs ys at d e f g h p q r =
+low-registers-put xs ys at d e f g h p q r =
     more d f g at (at + 18) (field (digits 16 8 0) ++ field xs) _ (omega arith)
     (more d e f at (at + 10) (bytes " 00000000 ") xs (omega arith) p q)
     (after-store f g (at + 18) (at + 19) (code " ") _ (omega arith) r)
@@ -130,11 +130,11 @@ regroup : (f a b c rs l : List ℕ) → f ++ (a ++ b ++ c) ++ (rs ++ l) ≡ f ++
 regroup f a b c rs l = simp append-assoc
 
 -- The whole line: the registers after the first three are there as text.
-pub line-t-laid : (pc word a b at : ℕ) (text d e f g : List ℕ)
+pub line-t-put : (pc word a b at : ℕ) (text d e f g : List ℕ)
     → e ≡ put d at (front pc word) → f ≡ put e (at + 18) (three 0 a b) → g ≡ put f (at + 45) text
     → g ≡ put d at (frontT pc word a b ++ text)
 unfolding frontT
-line-t-laid pc word a b at text d e f g p q r =
+line-t-put pc word a b at text d e f g p q r =
     more d f g at (at + 45) (front pc word ++ three 0 a b) text (simp (length-append, length-digits) (omega arith))
     (more d e f at (at + 18) (front pc word) (three 0 a b) (simp (length-append, length-digits) (omega arith)) p q)
     r
@@ -146,13 +146,13 @@ line-t-is pc word a b rs = regroup (front pc word) (field (digits 16 8 0)) (fiel
 
 -- ---- H, L and D
 
--- An H line, laid in three pieces.
-pub line-h-laid : (c n x at p q : ℕ) (access d e f g : List ℕ) → q ≡ p + 1 + length access
+-- An H line, put in three pieces.
+pub line-h-put : (c n x at p q : ℕ) (access d e f g : List ℕ) → q ≡ p + 1 + length access
     → ((rest : List ℕ) → 5 ≤ length rest → put e p rest ≡ put d at (cyclePrefix (code "H") c ++ rest))
     → f ≡ put e p (field access) → g ≡ put f q (field (ioName n) ++ (field (digits 16 8 x) ++ (LF ∷ [])))
     → g ≡ put d at (lineH c access n x)
 unfolding lineH
-line-h-laid c n x at p q access d e f g qe first second last =
+line-h-put c n x at p q access d e f g qe first second last =
     let front = cyclePrefix (code "H") c in
     let name = field (ioName n) in
     let value = field (digits 16 8 x) in
@@ -160,13 +160,13 @@ line-h-laid c n x at p q access d e f g qe first second last =
     ∙ first (field access ++ (name ++ (value ++ (LF ∷ [])))) (simp (length-append, length-digits) (omega arith))
     ∙ ap (put d at) (sym (append-assoc front (field access) (name ++ (value ++ (LF ∷ [])))) ∙ sym (append-assoc (front ++ field access) name (value ++ (LF ∷ []))) ∙ sym (append-assoc (front ++ field access ++ name) value (LF ∷ [])))
 
--- An L or D line, laid in two.
-pub line-ld-laid : (letter c x at p : ℕ) (d e f : List ℕ)
+-- An L or D line, put in two.
+pub line-ld-put : (letter c x at p : ℕ) (d e f : List ℕ)
     → ((rest : List ℕ) → 5 ≤ length rest → put e p rest ≡ put d at (cyclePrefix letter c ++ rest))
     → f ≡ put e p (field (digits 16 8 x) ++ (LF ∷ []))
     → f ≡ put d at (lineLD (letter ∷ []) c x)
 unfolding lineLD
-line-ld-laid letter c x at p d e f first last =
+line-ld-put letter c x at p d e f first last =
     last
     ∙ first (field (digits 16 8 x) ++ (LF ∷ [])) (simp (length-append, length-digits) (omega arith))
     ∙ ap (put d at) (sym (append-assoc (cyclePrefix letter c) (field (digits 16 8 x)) (LF ∷ [])))

@@ -155,19 +155,19 @@ no-prefix = record { seven = refl; each = λ c l h. absurd (omega arith) }
 
 -- ---- laying it
 
--- Two characters laid over the end of a piece, and what follows them over what is left of it.
-laid-over : (d f g xs two rest : List ℕ) (at n : ℕ) → f ≡ put d at xs → g ≡ put f (at + n) two → length two ≡ 2 → 5 ≤ length rest
+-- Two characters put over the end of a piece, and what follows them over what is left of it.
+over-two : (d f g xs two rest : List ℕ) (at n : ℕ) → f ≡ put d at xs → g ≡ put f (at + n) two → length two ≡ 2 → 5 ≤ length rest
     → n ≤ length xs → length xs ≤ n + 7 → put g (at + n + 2) rest ≡ put d at (take n xs ++ two ++ rest)
-laid-over d f g xs two rest at n p q e h k l =
+over-two d f g xs two rest at n p q e h k l =
     joined f g (put g (at + n + 2) rest) (at + n) (at + n + 2) two rest (omega arith) q refl
     ∙ rw p (put-cut d at n xs (two ++ rest) k (rw length-append (omega arith)))
     ∙ ap (put d at) (sym (append-assoc (take n xs) two rest))
 
 module _ (letter c at base lowered count held more : ℕ) (byte : letter < 256) (s : GivesPrefix base lowered count held more c) where
-  -- The front of a line, by the bytes that are held and the last two characters; what is laid after it goes over the rest.
-  pub cycle-laid : (d e f g rest : List ℕ) → e ≡ put d at (lowBytes 8 (held + letter)) → f ≡ cond (ltb 8 count) (put e (at + 8) (lowBytes 8 more)) e
+  -- The front of a line, by the bytes that are held and the last two characters; what is put after it goes over the rest.
+  pub cycle-put : (d e f g rest : List ℕ) → e ≡ put d at (lowBytes 8 (held + letter)) → f ≡ cond (ltb 8 count) (put e (at + 8) (lowBytes 8 more)) e
       → g ≡ put f (at + count) (lastTwo (c - base) lowered) → 5 ≤ length rest → put g (at + count + 2) rest ≡ put d at (cyclePrefix letter c ++ rest)
-  cycle-laid d e f g rest p q r h = go (ltb 8 count) refl
+  cycle-put d e f g rest p q r h = go (ltb 8 count) refl
     where
       first : List ℕ
       first = lowBytes 8 (held + letter)
@@ -182,10 +182,10 @@ module _ (letter c at base lowered count held more : ℕ) (byte : letter < 256) 
       go false t =
           let short = ltb-false 8 count t in
           let fits : count ≤ length first = rw length-low short in
-          laid-over d f g first (lastTwo (c - base) lowered) rest at count (rw t at q ∙ p) r (length-low 2 _) h fits (rw length-low (omega (arith, some)))
+          over-two d f g first (lastTwo (c - base) lowered) rest at count (rw t at q ∙ p) r (length-low 2 _) h fits (rw length-low (omega (arith, some)))
           ∙ ap (put d at) (ap (λ (l : List ℕ). l ++ lastTwo (c - base) lowered ++ rest) (sym (take-append-le count first second fits)) ∙ ap (λ (l : List ℕ). l ++ rest) (s .front letter byte))
       go true t =
           let long = ltb-true 8 count t in
           let both : length (first ++ second) ≡ 16 = rw (length-append, length-low, length-low) in
-          laid-over d f g (first ++ second) (lastTwo (c - base) lowered) rest at count (joined d e f at (at + 8) first second (rw length-low) p (rw t at q)) r (length-low 2 _) h (omega (arith, both, s .few)) (omega (arith, both))
+          over-two d f g (first ++ second) (lastTwo (c - base) lowered) rest at count (joined d e f at (at + 8) first second (rw length-low) p (rw t at q)) r (length-low 2 _) h (omega (arith, both, s .few)) (omega (arith, both))
           ∙ ap (λ (l : List ℕ). put d at (l ++ rest)) (s .front letter byte)

@@ -19,7 +19,7 @@ use Rattle.trace.proofs.LengthLaws.{length-fields}
 
 -- ---- a text that is written over
 
--- What is laid after a front leaves it as it is.
+-- What is put after a front leaves it as it is.
 put-past : (b : ℕ) (d : List ℕ) (at : ℕ) (xs : List ℕ) → put (b ∷ d) (suc at) xs ≡ b ∷ put d at xs
 unfolding put
 put-past b d at [] = refl
@@ -29,13 +29,13 @@ put-after : (a d : List ℕ) (at : ℕ) (xs : List ℕ) → put (a ++ d) (length
 put-after [] d at xs = rw zero-add
 put-after (b ∷ a) d at xs = rw (suc-add, put-past, put-after a d at xs)
 
--- What is laid over a front that is as long takes its place.
+-- What is put over a front that is as long takes its place.
 put-over : (a b d : List ℕ) → length b ≡ length a → put (a ++ d) 0 b ≡ b ++ d
 put-over a b d e = put-front (a ++ d) b (rw (length-append, e) (omega arith)) ∙ rw (e, drop-at a d (length a) refl)
 
 -- ---- one register is changed
 
--- The digits of x laid over those of the register k.
+-- The digits of x put over those of the register k.
 fields-set : (rs t : List ℕ) (k x : ℕ) → k < length rs → put (registerFields rs ++ t) (k * 9 + 1) (digits 16 8 x) ≡ registerFields (set rs k x) ++ t
 unfolding registerFields
 fields-set [] t k x h = absurd (omega arith)
@@ -57,20 +57,20 @@ text-set rs text after k x h p q = rw (q, p) (fields-set rs (LF ∷ []) k x h)
 -- ---- register after register
 
 module _ (regs : List ℕ) (n : ℕ) where
-  -- The register n was laid at a place, and the text of those after it is left.
-  pub lay-turn : (text after : List ℕ) (at to : ℕ) → n < length regs → after ≡ put text at (field (digits 16 8 (getD regs n 0))) → to ≡ at + 9
+  -- The register n was put at a place, and the text of those after it is left.
+  pub put-turn : (text after : List ℕ) (at to : ℕ) → n < length regs → after ≡ put text at (field (digits 16 8 (getD regs n 0))) → to ≡ at + 9
       → put after to (registersText (drop (n + 1) regs)) ≡ put text at (registersText (drop n regs))
   unfolding registersText registerFields
-  lay-turn text after at to h p q =
+  put-turn text after at to h p q =
       rw (add-one n, drop-cons regs n 0 h, append-assoc)
       (more text after _ at to (field (digits 16 8 (getD regs n 0))) _ (simp length-digits (omega arith)) p refl)
 
   -- No register is left, only the LF.
-  pub lay-end : (text : List ℕ) (at to : ℕ) → length regs ≤ n → to ≡ at → set text to LF ≡ put text at (registersText (drop n regs))
+  pub put-end : (text : List ℕ) (at to : ℕ) → length regs ≤ n → to ≡ at → set text to LF ≡ put text at (registersText (drop n regs))
   unfolding registersText registerFields
-  lay-end text at to h q = rw (drop-of-length-le regs h, q, put-one)
+  put-end text at to h q = rw (drop-of-length-le regs h, q, put-one)
 
 -- The text of 13 registers is all of 118 bytes.
-pub lay-whole : (regs text : List ℕ) → length regs ≡ 16 → length text ≡ 118 → put text 0 (registersText (drop 3 regs)) ≡ registersText (drop 3 regs)
+pub put-whole : (regs text : List ℕ) → length regs ≡ 16 → length text ≡ 118 → put text 0 (registersText (drop 3 regs)) ≡ registersText (drop 3 regs)
 unfolding registersText
-lay-whole regs text p q = put-all text (registersText (drop 3 regs)) (simp (length-append, length-fields, length-drop) (omega arith))
+put-whole regs text p q = put-all text (registersText (drop 3 regs)) (simp (length-append, length-fields, length-drop) (omega arith))

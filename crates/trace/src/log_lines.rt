@@ -14,7 +14,7 @@ ghost use Prim.Native.Nat.{ℕ, _+_, _/_, _%_, _^_, _≤_, _<_};
 ghost use lib.ListN.{length};
 ghost use Rattle.text.specs.Bytes.{bytes};
 ghost use Rattle.text.specs.Numerals.{digits, lowBytes, HexWords};
-ghost use Rattle.text.specs.Place.{put};
+ghost use Rattle.text.specs.Place.{put, Puts};
 ghost use Rattle.isa.specs.Word.{signExtended};
 ghost use Rattle.trace.specs.LogLines.{field, frontT, lineH, lineLD, accessName};
 ghost use Rattle.trace.specs.Prefixes.{ValidFor};
@@ -27,7 +27,7 @@ const FIVE_F: u64 = 0x46_4646_4646;
 // What a 0 in byte 5 is above a blank, less a T and a blank in bytes 0 and 1.
 const LETTER_AND_BLANKS: u64 = 0x1000_0000_0000 - 0x2054;
 
-// Lays the T line of an instruction at a place and returns the place after it: its front and `text`, the text of R3 to R15. R1 and R2 are the
+// Puts the T line of an instruction at a place and returns the place after it: its front and `text`, the text of R3 to R15. R1 and R2 are the
 // word's immediates.
 pub fn put_line_t(
     out: &mut [u8],
@@ -91,7 +91,7 @@ fn immediate_digits(immediate: u64, low: u64) -> u64
     FIVE_F + low * 0x100_0000_0000
 }
 
-// Lays an H line at a place and returns the place after it; `writes`: WRITE, else READ. The prefix is valid for its cycle.
+// Puts an H line at a place and returns the place after it; `writes`: WRITE, else READ. The prefix is valid for its cycle.
 pub fn put_line_h(
     out: &mut [u8],
     at: usize,
@@ -103,7 +103,7 @@ pub fn put_line_h(
     prefix: &[u64; 7],
 ) -> usize
     requires { ⌜ (at + length (lineH c (accessName writes) n x) ≤ length (now out)) × (HexWords (now table) × ValidFor c (now prefix)) ⌝ }
-    ensures { λ r. ⌜ (now (out .exit) ≡ put (now (out .entry)) at (lineH c (accessName writes) n x)) × (r ≡ at + length (lineH c (accessName writes) n x)) ⌝ }
+    ensures { λ r. ⌜ Puts (now (out .entry)) at (lineH c (accessName writes) n x) r (now (out .exit)) ⌝ }
 {
     let held = hex_word(x, table);
     let access_at = put_cycle(out, at, b'H', c, prefix, table);
@@ -115,7 +115,7 @@ pub fn put_line_h(
     put_named_digits(out, name_at, n, held)
 }
 
-// Lays an L or D line at a place and returns the place after it. The prefix is valid for its cycle.
+// Puts an L or D line at a place and returns the place after it. The prefix is valid for its cycle.
 pub fn put_line_ld(
     out: &mut [u8],
     at: usize,
@@ -126,7 +126,7 @@ pub fn put_line_ld(
     prefix: &[u64; 7],
 ) -> usize
     requires { ⌜ (at + length (lineLD (letter ∷ []) c x) ≤ length (now out)) × (HexWords (now table) × ValidFor c (now prefix)) ⌝ }
-    ensures { λ r. ⌜ (now (out .exit) ≡ put (now (out .entry)) at (lineLD (letter ∷ []) c x)) × (r ≡ at + length (lineLD (letter ∷ []) c x)) ⌝ }
+    ensures { λ r. ⌜ Puts (now (out .entry)) at (lineLD (letter ∷ []) c x) r (now (out .exit)) ⌝ }
 {
     let held = hex_word(x, table);
     let value_at = put_cycle(out, at, letter, c, prefix, table);

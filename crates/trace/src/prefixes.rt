@@ -122,7 +122,7 @@ fn hundred_cycles(digits: u64, n: usize, held: u64, more: u64) -> Prefix
     }
 }
 
-// Lays the letter of a line and the cycle c at a place, and returns the place after them. Up to five bytes after that place are written too: what is laid next goes over them.
+// Puts the letter of a line and the cycle c at a place, and returns the place after them. Up to five bytes after that place are written too: what is put next goes over them.
 pub fn put_cycle(
     out: &mut [u8],
     at: usize,
@@ -142,7 +142,7 @@ pub fn put_cycle(
     at + count + 2
 }
 
-// Lays what is held beyond eight bytes, if there are so many.
+// Puts what is held beyond eight bytes, if there are so many.
 fn put_more(out: &mut [u8], at: usize, count: usize, more: u64)
     requires { ⌜ (8 < count → at + 16 ≤ length (now out)) ⌝ }
     ensures { λ _. ⌜ now (out .exit) ≡ cond (ltb 8 count) (put (now (out .entry)) (at + 8) (lowBytes 8 more)) (now (out .entry)) ⌝ }

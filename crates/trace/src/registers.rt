@@ -9,8 +9,8 @@ ghost use Rattle.text.specs.Numerals.{digits, HexWords};
 ghost use Rattle.text.specs.Place.{put};
 ghost use Rattle.trace.specs.LogLines.{registersText};
 
-// Lays the text of R3 to R15.
-pub fn lay_registers(text: &mut [u8; 118], regs: &[u32; 16], table: &[u64; 1024])
+// Puts the text of R3 to R15.
+pub fn put_registers(text: &mut [u8; 118], regs: &[u32; 16], table: &[u64; 1024])
     requires { ⌜ (length (now text) ≡ 118) × ((length (now regs) ≡ 16) × HexWords (now table)) ⌝ }
     ensures { λ _. ⌜ now (text .exit) ≡ registersText (drop 3 (now (regs .entry))) ⌝ }
 {

@@ -1,14 +1,12 @@
 -- Return trips made by the real functions, in each way that they can end. Assumes nothing.
-use Prim.Native.Nat.{ℕ, _+_, _-_, _*_, _≤_}
-use mathlib.Core.Path.{_≡_, refl, sym, _∙_, ap, subst}
+use Prim.Native.Nat.{ℕ, _*_, _≤_}
+use mathlib.Core.Path.{_≡_, refl, _∙_, ap, subst}
 use mathlib.Core.Bool.{Bool, true}
-use mathlib.Core.List.{List, _++_, append-assoc}
+use mathlib.Core.List.{List}
 use native.Mathlib.Omega.{arith}
 use lib.Dec.{leb}
 use lib.ListN.{length, take}
-use lib.Seq.{sets-eq}
 use borrow.Author.Tests.{eq-eqb, ne-eqb, leb-true}
-use borrow.Rule.Slice.PartMut.{putMid, post-is}
 use Rattle.text.specs.declared.Outcome.{Outcome}
 use Rattle.text.specs.Questions.{accepted}
 use Rattle.text.specs.Place.{put}
@@ -89,12 +87,6 @@ has-room isRight file space sent a o is p ok =
     let count : o .count ≡ length file = ap (λ (x : Outcome). x .count) whole ∙ rw (right .0, fits .0) in
     let held : length sent ≡ length space = ap length (p .bytes) ∙ rw (right .0, fits .0) (length-put space 0 file) in
     (right .0, omega (arith, count, held, room))
-
--- Words in the place of as many.
-pub put-part : (d ys : List ℕ) (at n : ℕ) → length ys ≡ n → at + n ≤ length d → putMid at (at + n - at) d ys ≡ put d at ys
-unfolding put
-put-part d ys at n e h =
-    ap (λ (z : List ℕ). take at d ++ (ys ++ z)) (post-is at (at + n) d (omega arith)) ∙ rw (← e, ← append-assoc) (sym (sets-eq ys d at (omega arith)))
 
 -- A sector of the disk is written into `text`, which is `sent` then; o is the outcome.
 module _ (disk : List ℕ) (sector : ℕ) (text sent words : List ℕ) (a : Written) (o : Outcome) (is : o ≡ writtenOutcome a)

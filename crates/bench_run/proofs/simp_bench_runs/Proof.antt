@@ -14,8 +14,8 @@ use Rattle.bench_run.proofs.simp_bench_runs.Tie as tie
 
 abbrev Inv-loop : tie.InvT-loop
 Inv-loop image memory₀ disk₀ frame₀ irq2 budget log₀ state₀ left₀ memory disk frame log state left =
-    Made irq2 (standingOf image freshRecord memory₀ disk₀ frame₀) budget (standingOf image state memory disk frame) left
-    × (length log ≡ length log₀) × (length memory ≡ length memory₀) × (length disk ≡ length disk₀) × (length frame ≡ length frame₀)
+    Made irq2 (standingOf image freshRecord memory₀ disk₀ frame₀) budget log₀ (standingOf image state memory disk frame) left log
+    × (length memory ≡ length memory₀) × (length disk ≡ length disk₀) × (length frame ≡ length frame₀)
 
 abbrev μ-loop : tie.MeasureT-loop
 μ-loop image memory₀ disk₀ frame₀ irq2 budget log₀ state₀ left₀ memory disk frame log state left = left
@@ -24,7 +24,7 @@ fresh-record-requires : tie.Need-fresh-record-requires Inv-loop μ-loop
 fresh-record-requires c κs = search needs
 
 loop-holds : tie.Need-loop-holds Inv-loop μ-loop
-loop-holds c = (rw (c .fresh-record .ensures) (none-made _ _ _), refl, refl, refl, refl)
+loop-holds c = (rw (c .fresh-record .ensures) (none-made _ _ _ _), refl, refl, refl)
 
 run-requires : tie.Need-run-requires Inv-loop μ-loop
 run-requires c κs = search needs
@@ -49,7 +49,7 @@ returns c =
     let a = c .before .before .before .before .before .before .before .before .before .before .before .before .before .before .before .before .before .before .before .before .before .before .before .before .before .args in
     let l = c .before .before .before .before .before .before .before .before .before .before .before .before .before .before .before .before .before .loop in
     let r = c .before .before .before .before .before .before .before .before .before .before .before .run in
-    by-idle (l .inv .0) (length (a .log .now)) (a .budget - l .left) (let all = l .inv .0 .spent in omega arith) (l .log) (l .inv .1)
+    by-idle (l .inv .0) (a .budget - l .left) (let all = l .inv .0 .spent in omega arith)
     (doneOf (r .result) (a .image .now) (r .last .1 .1 .0) (r .last .1 .1 .1 .0) (r .last .1 .1 .1 .1 .0) (r .last .1 .1 .1 .1 .1 .1 .1 .0)) (r .ensures)
     (c .if1 .taken)
     (standsWith (a .image .now) (r .last .1 .1 .0) (r .last .1 .1 .1 .0) (r .last .1 .1 .1 .1 .0)) (r .result .state, refl)
@@ -59,14 +59,14 @@ sub-left c =
     let a = c .before .before .before .before .before .before .before .before .before .before .before .before .before .before .before .before .before .before .before .before .before .before .before .before .before .before .args in
     let l = c .before .before .before .before .before .before .before .before .before .before .before .before .before .before .before .before .before .before .loop in
     let r = c .before .before .before .before .before .before .before .before .before .before .before .before .run in
-    within (l .inv .0) (l .log) (doneOf (r .result) (a .image .now) (r .last .1 .1 .0) (r .last .1 .1 .1 .0) (r .last .1 .1 .1 .1 .0) (r .last .1 .1 .1 .1 .1 .1 .1 .0)) (r .ensures)
+    within (l .inv .0) (doneOf (r .result) (a .image .now) (r .last .1 .1 .0) (r .last .1 .1 .1 .0) (r .last .1 .1 .1 .1 .0) (r .last .1 .1 .1 .1 .1 .1 .1 .0)) (r .ensures)
 
 loop-less : tie.Need-loop-less Inv-loop μ-loop
 loop-less c =
     let a = c .before .before .before .before .before .before .before .before .before .before .before .before .before .before .before .before .before .before .before .before .before .before .before .before .before .before .args in
     let l = c .before .before .before .before .before .before .before .before .before .before .before .before .before .before .before .before .before .before .loop in
     let r = c .before .before .before .before .before .before .before .before .before .before .before .before .run in
-    let most = within (l .inv .0) (l .log) (doneOf (r .result) (a .image .now) (r .last .1 .1 .0) (r .last .1 .1 .1 .0) (r .last .1 .1 .1 .1 .0) (r .last .1 .1 .1 .1 .1 .1 .1 .0)) (r .ensures) in
+    let most = within (l .inv .0) (doneOf (r .result) (a .image .now) (r .last .1 .1 .0) (r .last .1 .1 .1 .0) (r .last .1 .1 .1 .1 .0) (r .last .1 .1 .1 .1 .1 .1 .1 .0)) (r .ensures) in
     omega (arith, most, c .before .if1 .left)
 
 loop-again : tie.Need-loop-again Inv-loop μ-loop
@@ -74,13 +74,13 @@ loop-again c =
     let a = c .before .before .before .before .before .before .before .before .before .before .before .before .before .before .before .before .before .before .before .before .before .before .before .before .before .before .args in
     let l = c .before .before .before .before .before .before .before .before .before .before .before .before .before .before .before .before .before .before .loop in
     let r = c .before .before .before .before .before .before .before .before .before .before .before .before .run in
-    let most = within (l .inv .0) (l .log) (doneOf (r .result) (a .image .now) (r .last .1 .1 .0) (r .last .1 .1 .1 .0) (r .last .1 .1 .1 .1 .0) (r .last .1 .1 .1 .1 .1 .1 .1 .0)) (r .ensures) in
+    let most = within (l .inv .0) (doneOf (r .result) (a .image .now) (r .last .1 .1 .0) (r .last .1 .1 .1 .0) (r .last .1 .1 .1 .1 .0) (r .last .1 .1 .1 .1 .1 .1 .1 .0)) (r .ensures) in
     let rest : l .left - r .result .cycles + r .result .cycles ≡ l .left = omega (arith, most) in
     let log-kept : length (r .last .1 .1 .1 .1 .1 .1 .1 .0) ≡ length (l .log) = omega (arith, r .kept) in
     let memory-kept : length (r .last .1 .1 .0) ≡ length (l .memory) = omega (arith, r .kept) in
     let disk-kept : length (r .last .1 .1 .1 .0) ≡ length (l .disk) = omega (arith, r .kept) in
     let frame-kept : length (r .last .1 .1 .1 .1 .0) ≡ length (l .frame) = omega (arith, r .kept) in
-    (one-more (l .inv .0) (l .log) (doneOf (r .result) (a .image .now) (r .last .1 .1 .0) (r .last .1 .1 .1 .0) (r .last .1 .1 .1 .1 .0) (r .last .1 .1 .1 .1 .1 .1 .1 .0)) (r .ensures) (l .left - r .result .cycles) rest, log-kept ∙ l .inv .1, memory-kept ∙ l .inv .2, disk-kept ∙ l .inv .3, frame-kept ∙ l .inv .4)
+    (one-more (l .inv .0) (doneOf (r .result) (a .image .now) (r .last .1 .1 .0) (r .last .1 .1 .1 .0) (r .last .1 .1 .1 .1 .0) (r .last .1 .1 .1 .1 .1 .1 .1 .0)) (r .ensures) log-kept (l .left - r .result .cycles) rest, memory-kept ∙ l .inv .1, disk-kept ∙ l .inv .2, frame-kept ∙ l .inv .3)
 
 same-length-5 : tie.Need-same-length-5 Inv-loop μ-loop
 same-length-5 c = search needs
@@ -98,7 +98,7 @@ returns-2 : tie.Need-returns-2 Inv-loop μ-loop
 returns-2 c =
     let a = c .before .before .before .before .before .before .before .before .before .args in
     let l = c .before .loop in
-    by-calls (l .inv .0) (length (a .log .now)) (a .budget) (omega (arith, c .loop-test .left)) refl (standsWith (a .image .now) (l .memory) (l .disk) (l .frame)) (l .state, refl)
+    by-calls (l .inv .0) (a .budget) (omega (arith, c .loop-test .left)) refl (standsWith (a .image .now) (l .memory) (l .disk) (l .frame)) (l .state, refl)
 
 pub simp-bench-runs-spec : {M : Type 1} → statement M
 simp-bench-runs-spec =

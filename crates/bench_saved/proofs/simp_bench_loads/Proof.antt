@@ -14,11 +14,11 @@ Inv-loop bytes n out r₀ k₀ i₀ r k i = Reading bytes i r k × (i ≤ n)
 abbrev μ-loop : tie.MeasureT-loop
 μ-loop bytes n out r₀ k₀ i₀ r k i = n - i
 
-fresh-requires : tie.Need-fresh-requires Inv-loop μ-loop
-fresh-requires c κs = search needs
+fresh-record-requires : tie.Need-fresh-record-requires Inv-loop μ-loop
+fresh-record-requires c κs = search needs
 
 loop-holds : tie.Need-loop-holds Inv-loop μ-loop
-loop-holds c = (record { last = c .fresh .ensures; done = refl; few = omega arith }, omega arith)
+loop-holds c = (record { last = c .fresh-record .ensures; done = refl; few = omega arith }, omega arith)
 
 load-requires : tie.Need-load-requires Inv-loop μ-loop
 load-requires c κs = search needs
@@ -56,7 +56,7 @@ simp-bench-loads-spec =
     (tie.spec
     Inv-loop
     μ-loop
-    fresh-requires
+    fresh-record-requires
     loop-holds
     load-requires
     is-loaded-requires

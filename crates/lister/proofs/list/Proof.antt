@@ -26,8 +26,8 @@ returns-3 c =
     let a = c .before .before .before .before .before .before .before .args in
     no-room (a .words .now) (a .text .now) (omega arith) _ (c .before .before .before .first-unknown .ensures) (omega arith) (sym (c .before .has-room .ensures) ∙ not-true _ (c .if3 .taken))
 
-lay-lines-requires : tie.Need-lay-lines-requires
-lay-lines-requires c κs = leb-true _ _ (sym (c .before .before .has-room .ensures) ∙ not-false _ (c .before .if3 .left))
+put-lines-requires : tie.Need-put-lines-requires
+put-lines-requires c κs = leb-true _ _ (sym (c .before .before .has-room .ensures) ∙ not-false _ (c .before .if3 .left))
 
 same-length : tie.Need-same-length
 same-length c = search needs
@@ -37,8 +37,8 @@ returns-4 c =
     let a = c .before .before .before .before .before .before .before .before .before .before .before .args in
     let bad = c .before .before .before .before .before .before .before .first-unknown in
     let room = sym (c .before .before .before .before .before .has-room .ensures) ∙ not-false _ (c .before .before .before .before .if3 .left) in
-    let laid = c .before .before .lay-lines .ensures in
-    wrote (a .words .now) (a .text .now) (omega arith) _ (bad .ensures) (omega arith) _ _ room (laid .0) (laid .1)
+    let is-put = c .before .before .put-lines .ensures in
+    wrote (a .words .now) (a .text .now) (omega arith) _ (bad .ensures) (omega arith) _ _ room (is-put .0) (is-put .1)
 
 pub list-spec : {M : Type 1} → statement M
 list-spec =
@@ -49,6 +49,6 @@ list-spec =
     returns-2
     has-room-requires
     returns-3
-    lay-lines-requires
+    put-lines-requires
     same-length
     returns-4)

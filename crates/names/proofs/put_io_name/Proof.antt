@@ -1,68 +1,37 @@
--- `names::put_io_name` meets its contract.
+-- `names::put_io_name` meets its contract: each arm's bytes are the table's name of its number.
+use mathlib.Core.Path.{refl}
 use native.Mathlib.Omega.{arith}
-use borrow.Author.Needs.{needs}
-use Rattle.names.proofs.NameLaws.{nothing-laid, no-io-between}
-use Rattle.isa.proofs.IoLaws.{no-name-above}
+use Rattle.isa.specs.Registers.{ioName}
+use Rattle.text.proofs.Truth.{past}
 use Rattle.names.proofs.put_io_name.Statement.{statement}
 use Rattle.names.proofs.put_io_name.Tie as tie
 
-put-interrupt-name-requires : tie.Need-put-interrupt-name-requires
-put-interrupt-name-requires c κs = search needs
-
-put-handler-and-output-name-requires : tie.Need-put-handler-and-output-name-requires
-put-handler-and-output-name-requires c κs = search needs
-
-put-timer-and-disk-name-requires : tie.Need-put-timer-and-disk-name-requires
-put-timer-and-disk-name-requires c κs = search needs
-
-put-monitor-name-requires : tie.Need-put-monitor-name-requires
-put-monitor-name-requires c κs = search needs
-
-same-length : tie.Need-same-length
-same-length c = search needs
-
-returns : tie.Need-returns
-returns c = search needs
-
-same-length-2 : tie.Need-same-length-2
-same-length-2 c = search needs
-
-returns-2 : tie.Need-returns-2
-returns-2 c = search needs
-
-same-length-3 : tie.Need-same-length-3
-same-length-3 c = search needs
-
-returns-3 : tie.Need-returns-3
-returns-3 c = search needs
-
-same-length-4 : tie.Need-same-length-4
-same-length-4 c = search needs
-
-returns-4 : tie.Need-returns-4
-returns-4 c = search needs
-
-returns-5 : tie.Need-returns-5
-returns-5 c = let a = c .before .before .before .before .before .args in nothing-laid (a .out .now) (a .at) _ (no-io-between (a .n) (omega arith) (omega arith))
-
-returns-6 : tie.Need-returns-6
-returns-6 c = let a = c .before .before .before .before .before .before .args in nothing-laid (a .out .now) (a .at) _ (no-name-above (a .n) (omega arith))
-
 pub put-io-name-spec : {M : Type 1} → statement M
+unfolding ioName
 put-io-name-spec =
     tie.close
     (tie.spec
-    put-interrupt-name-requires
-    put-handler-and-output-name-requires
-    put-timer-and-disk-name-requires
-    put-monitor-name-requires
-    same-length
-    returns
-    same-length-2
-    returns-2
-    same-length-3
-    returns-3
-    same-length-4
-    returns-4
-    returns-5
-    returns-6)
+    (λ c. refl) (λ c κs. rw (c .before .before .match .keys1) at (c .before .before .before .before .pre))
+    (λ c. refl) (λ c κs. rw (c .before .before .match .keys2) at (c .before .before .before .before .pre))
+    (λ c. refl) (λ c κs. rw (c .before .before .match .keys3) at (c .before .before .before .before .pre))
+    (λ c. refl) (λ c κs. rw (c .before .before .match .keys4) at (c .before .before .before .before .pre))
+    (λ c. refl) (λ c κs. rw (c .before .before .match .keys5) at (c .before .before .before .before .pre))
+    (λ c. refl) (λ c κs. rw (c .before .before .match .keys6) at (c .before .before .before .before .pre))
+    (λ c. refl) (λ c κs. rw (c .before .before .match .keys7) at (c .before .before .before .before .pre))
+    (λ c. refl) (λ c κs. rw (c .before .before .match .keys8) at (c .before .before .before .before .pre))
+    (λ c. refl) (λ c κs. rw (c .before .before .match .keys9) at (c .before .before .before .before .pre))
+    (λ c. refl) (λ c κs. rw (c .before .before .match .keys10) at (c .before .before .before .before .pre))
+    (λ c. refl) (λ c κs. rw (c .before .before .match .keys11) at (c .before .before .before .before .pre))
+    (λ c κs. (c .before .before .before .pre, past 0 11 (c .before .before .before .args .n) (omega arith) (c .before .match .rest)))
+    (λ c. c .before .before .put-bytes .kept .0) (λ c. rw (c .before .before .before .before .before .match .keys1) (c .before .before .put-bytes .ensures))
+    (λ c. c .before .before .put-bytes2 .kept .0) (λ c. rw (c .before .before .before .before .before .match .keys2) (c .before .before .put-bytes2 .ensures))
+    (λ c. c .before .before .put-bytes3 .kept .0) (λ c. rw (c .before .before .before .before .before .match .keys3) (c .before .before .put-bytes3 .ensures))
+    (λ c. c .before .before .put-bytes4 .kept .0) (λ c. rw (c .before .before .before .before .before .match .keys4) (c .before .before .put-bytes4 .ensures))
+    (λ c. c .before .before .put-bytes5 .kept .0) (λ c. rw (c .before .before .before .before .before .match .keys5) (c .before .before .put-bytes5 .ensures))
+    (λ c. c .before .before .put-bytes6 .kept .0) (λ c. rw (c .before .before .before .before .before .match .keys6) (c .before .before .put-bytes6 .ensures))
+    (λ c. c .before .before .put-bytes7 .kept .0) (λ c. rw (c .before .before .before .before .before .match .keys7) (c .before .before .put-bytes7 .ensures))
+    (λ c. c .before .before .put-bytes8 .kept .0) (λ c. rw (c .before .before .before .before .before .match .keys8) (c .before .before .put-bytes8 .ensures))
+    (λ c. c .before .before .put-bytes9 .kept .0) (λ c. rw (c .before .before .before .before .before .match .keys9) (c .before .before .put-bytes9 .ensures))
+    (λ c. c .before .before .put-bytes10 .kept .0) (λ c. rw (c .before .before .before .before .before .match .keys10) (c .before .before .put-bytes10 .ensures))
+    (λ c. c .before .before .put-bytes11 .kept .0) (λ c. rw (c .before .before .before .before .before .match .keys11) (c .before .before .put-bytes11 .ensures))
+    (λ c. c .before .before .put-device-name .kept .0) (λ c. c .before .before .put-device-name .ensures))

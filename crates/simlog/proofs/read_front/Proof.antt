@@ -1,9 +1,10 @@
 -- `simlog::read_front` meets its contract.
-use mathlib.Core.Path.{_≡_, sym}
+use mathlib.Core.Path.{sym}
 use native.Mathlib.Omega.{arith}
 use lib.ListN.{length}
 use lib.Seq.{length-take-le}
-use Rattle.simlog.proofs.Laws.{image-of}
+use borrow.Author.Tests.{eqb-true}
+use Rattle.files.proofs.FrontLaws.{front-read}
 use borrow.Author.Needs.{needs}
 use Rattle.simlog.proofs.read_front.Statement.{statement}
 use Rattle.simlog.proofs.read_front.Tie as tie
@@ -19,10 +20,8 @@ outcome-requires c κs = search needs
 
 returns : tie.Need-returns
 returns c =
-    let a = c .before .before .before .before .before .args in
-    let long = c .before .before .before .before .before .pre .0 in
-    let size : length (a .image .now) ≡ 4096 = omega arith in
-    λ whole front. image-of whole (length (a .buffer .now)) size long (rw front at (c .before .read-image .ensures)) (c .outcome .ensures)
+    let start = c .before .before .before .before .before in
+    front-read (start .args .buffer .now) (start .args .n) (c .before .read-image .ensures) (c .outcome .ensures) (λ e. omega (arith, eqb-true (length (start .args .image .now)) 4096 e, start .pre .0))
 
 pub read-front-spec : {M : Type 1} → statement M
 read-front-spec =

@@ -22,8 +22,8 @@ abbrev μ-loop : tie.MeasureT-loop
 loop-holds : tie.Need-loop-holds Inv-loop μ-loop
 loop-holds c = (refl, omega arith, refl)
 
-append-requires : tie.Need-append-requires Inv-loop μ-loop
-append-requires c κs = search needs
+put-if-room-requires : tie.Need-put-if-room-requires Inv-loop μ-loop
+put-if-room-requires c κs = search needs
 
 sub-left : tie.Need-sub-left Inv-loop μ-loop
 sub-left c = search needs
@@ -34,9 +34,9 @@ loop-less c = search needs
 loop-again : tie.Need-loop-again Inv-loop μ-loop
 loop-again c =
     let now = c .before .before .before .before .before .loop in
-    let laid = c .before .before .append .ensures in
-    let turn = repeat-turn (record { bytes = now .text; end = now .next }) _ _ (now .left) (c .before .before .before .before .loop-test .taken) (laid .line) in
-    (turn ∙ now .inv .0, laid .counts .0, c .before .before .append .kept .0 ∙ now .inv .2)
+    let is-put = c .before .before .put-if-room .ensures in
+    let turn = repeat-turn (record { bytes = now .text; end = now .next }) _ _ (now .left) (c .before .before .before .before .loop-test .taken) (is-put .line) in
+    (turn ∙ now .inv .0, is-put .counts .0, c .before .before .put-if-room .kept .0 ∙ now .inv .2)
 
 same-length : tie.Need-same-length Inv-loop μ-loop
 same-length c = search needs
@@ -54,7 +54,7 @@ repeat-spec =
     Inv-loop
     μ-loop
     loop-holds
-    append-requires
+    put-if-room-requires
     sub-left
     loop-less
     loop-again

@@ -12,14 +12,14 @@ Inv-loop i words line₀ at₀ k₀ t7 line at k = (k ≤ words) × (at ≤ leng
 abbrev μ-loop : tie.MeasureT-loop
 μ-loop i words line₀ at₀ k₀ t7 line at k = words - k
 
-slice-aggregate-append : tie.Need-slice-aggregate-append Inv-loop μ-loop
-slice-aggregate-append c = search needs
+slice-aggregate-put-if-room : tie.Need-slice-aggregate-put-if-room Inv-loop μ-loop
+slice-aggregate-put-if-room c = search needs
 
-slice-aggregate-append-2 : tie.Need-slice-aggregate-append-2 Inv-loop μ-loop
-slice-aggregate-append-2 c = search needs
+slice-aggregate-put-if-room-2 : tie.Need-slice-aggregate-put-if-room-2 Inv-loop μ-loop
+slice-aggregate-put-if-room-2 c = search needs
 
-append-requires : tie.Need-append-requires Inv-loop μ-loop
-append-requires c κs = search needs
+put-if-room-requires : tie.Need-put-if-room-requires Inv-loop μ-loop
+put-if-room-requires c κs = search needs
 
 loop-holds : tie.Need-loop-holds Inv-loop μ-loop
 loop-holds c = search needs
@@ -42,14 +42,14 @@ loop-less c = search needs
 loop-again : tie.Need-loop-again Inv-loop μ-loop
 loop-again c = search needs
 
-slice-aggregate-append-3 : tie.Need-slice-aggregate-append-3 Inv-loop μ-loop
-slice-aggregate-append-3 c = search needs
+slice-aggregate-put-if-room-3 : tie.Need-slice-aggregate-put-if-room-3 Inv-loop μ-loop
+slice-aggregate-put-if-room-3 c = search needs
 
-slice-aggregate-append-4 : tie.Need-slice-aggregate-append-4 Inv-loop μ-loop
-slice-aggregate-append-4 c = search needs
+slice-aggregate-put-if-room-4 : tie.Need-slice-aggregate-put-if-room-4 Inv-loop μ-loop
+slice-aggregate-put-if-room-4 c = search needs
 
-append-requires-2 : tie.Need-append-requires-2 Inv-loop μ-loop
-append-requires-2 c κs = search needs
+put-if-room-requires-2 : tie.Need-put-if-room-requires-2 Inv-loop μ-loop
+put-if-room-requires-2 c κs = search needs
 
 array-share-prefix-line : tie.Need-array-share-prefix-line Inv-loop μ-loop
 array-share-prefix-line c = search needs
@@ -69,9 +69,9 @@ say-step-spec =
     (tie.spec
     Inv-loop
     μ-loop
-    slice-aggregate-append
-    slice-aggregate-append-2
-    append-requires
+    slice-aggregate-put-if-room
+    slice-aggregate-put-if-room-2
+    put-if-room-requires
     loop-holds
     slice-aggregate-put-word
     add-put-word
@@ -79,9 +79,9 @@ say-step-spec =
     add-k
     loop-less
     loop-again
-    slice-aggregate-append-3
-    slice-aggregate-append-4
-    append-requires-2
+    slice-aggregate-put-if-room-3
+    slice-aggregate-put-if-room-4
+    put-if-room-requires-2
     array-share-prefix-line
     slice-aggregate-say
     say-requires

@@ -31,8 +31,8 @@ same-length c = search needs
 
 returns : tie.Need-returns
 returns c =
-    let laid = c .before .before .put-bytes in
-    let fits : laid .result ≤ length (laid .last .0) = omega (arith, laid .ensures .1, laid .kept .0, c .before .before .before .before .before .before .before .before .before .before .put-path .kept .1 .1 .0, c .before .before .before .before .before .before .before .before .before .before .before .before .before .before .before .pre) in
+    let is-put = c .before .before .put-bytes in
+    let fits : is-put .result ≤ length (is-put .last .0) = omega (arith, is-put .ensures .1, is-put .kept .0, c .before .before .before .before .before .before .before .before .before .before .put-path .kept .1 .1 .0, c .before .before .before .before .before .before .before .before .before .before .before .before .before .before .before .pre) in
     (fits, sym (length-take-le _ _ fits))
 
 same-length-2 : tie.Need-same-length-2

@@ -1,4 +1,5 @@
 -- `commands::assembling::assemble_file` meets its contract.
+use native.Mathlib.Omega.{arith}
 use borrow.Author.Needs.{needs}
 use Rattle.commands.proofs.assembling.assemble_file.Statement.{statement}
 use Rattle.commands.proofs.assembling.assemble_file.Tie as tie
@@ -18,14 +19,14 @@ read-front-at-requires c κs = search needs
 enum-known-n : tie.Need-enum-known-n
 enum-known-n c = search needs
 
-array-share-prefix-text : tie.Need-array-share-prefix-text
-array-share-prefix-text c = let got = rw (c .before .n .given .1) at (c .before .before .before .before .read-front-at .ensures) in got .0
-
 slice-aggregate-assemble-text : tie.Need-slice-aggregate-assemble-text
-slice-aggregate-assemble-text c = let got = rw (c .before .before .n .given .1) at (c .before .before .before .before .before .read-front-at .ensures) in got .1
+slice-aggregate-assemble-text c = search needs
 
 assemble-text-requires : tie.Need-assemble-text-requires
-assemble-text-requires c κs = search needs
+assemble-text-requires c κs =
+    let read = c .before .before .before .before .before .read-front-at in
+    let got = rw (c .before .before .n .given .1) at (read .ensures) in
+    (c .before .before .before .before .before .before .before .before .before .pre, omega (arith, read .kept .1 .0), got .0)
 
 enum-told : tie.Need-enum-told
 enum-told c = search needs
@@ -45,7 +46,6 @@ assemble-file-spec =
     slice-aggregate-read-front-at
     read-front-at-requires
     enum-known-n
-    array-share-prefix-text
     slice-aggregate-assemble-text
     assemble-text-requires
     enum-told

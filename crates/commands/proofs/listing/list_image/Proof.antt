@@ -8,11 +8,8 @@ use Rattle.commands.proofs.listing.list_image.Tie as tie
 used-words-requires : tie.Need-used-words-requires
 used-words-requires c κs = search needs
 
-slice-aggregate-say-at : tie.Need-slice-aggregate-say-at
-slice-aggregate-say-at c = search needs
-
-say-at-requires : tie.Need-say-at-requires
-say-at-requires c κs = search needs
+tell-empty-requires : tie.Need-tell-empty-requires
+tell-empty-requires c κs = search needs
 
 returns : tie.Need-returns
 returns c = search needs
@@ -31,8 +28,7 @@ list-image-spec =
     tie.close
     (tie.spec
     used-words-requires
-    slice-aggregate-say-at
-    say-at-requires
+    tell-empty-requires
     returns
     slice-aggregate-list-words
     list-words-requires

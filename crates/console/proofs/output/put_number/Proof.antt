@@ -2,7 +2,7 @@
 use native.Mathlib.Omega.{arith}
 use borrow.Author.Needs.{needs}
 use Rattle.text.proofs.DecimalLaws.{length-decimal}
-use Rattle.console.proofs.AppendLaws.{laid-one, laid-none}
+use Rattle.console.proofs.AppendLaws.{pieces-one, pieces-none}
 use Rattle.console.proofs.output.put_number.Statement.{statement}
 use Rattle.console.proofs.output.put_number.Tie as tie
 
@@ -13,7 +13,7 @@ digit-count-requires : tie.Need-digit-count-requires
 digit-count-requires c κs = search needs
 
 returns : tie.Need-returns
-returns c = laid-none _ _ _ (omega arith) (rw length-decimal (omega (arith, c .before .digit-count .ensures .0)))
+returns c = pieces-none _ _ _ (omega arith) (rw length-decimal (omega (arith, c .before .digit-count .ensures .0)))
 
 put-decimal-requires : tie.Need-put-decimal-requires
 put-decimal-requires c κs = search needs
@@ -22,7 +22,7 @@ same-length : tie.Need-same-length
 same-length c = search needs
 
 returns-2 : tie.Need-returns-2
-returns-2 c = laid-one _ _ _ (omega arith) _ _ (rw length-decimal (omega (arith, c .before .before .before .before .before .digit-count .ensures .0))) (c .before .before .put-decimal .ensures .0) (rw length-decimal (c .before .before .put-decimal .ensures .1))
+returns-2 c = pieces-one _ _ _ (omega arith) _ _ (rw length-decimal (omega (arith, c .before .before .before .before .before .digit-count .ensures .0))) (c .before .before .put-decimal .ensures .0) (rw length-decimal (c .before .before .put-decimal .ensures .1))
 
 pub put-number-spec : {M : Type 1} → statement M
 put-number-spec =

@@ -1,7 +1,7 @@
 -- `console::path::put_new_path` meets its contract.
 use native.Mathlib.Omega.{arith}
 use borrow.Author.Needs.{needs}
-use Rattle.console.proofs.AppendLaws.{no-path, path-laid}
+use Rattle.console.proofs.AppendLaws.{no-path, path-put}
 use Rattle.console.proofs.path.put_new_path.Statement.{statement}
 use Rattle.console.proofs.path.put_new_path.Tie as tie
 
@@ -27,7 +27,7 @@ same-length : tie.Need-same-length
 same-length c = search needs
 
 returns-3 : tie.Need-returns-3
-returns-3 c = path-laid _ _ _ _ _ _ (omega (arith, c .before .before .before .before .before .before .before .before .before .if2 .left, c .before .before .before .before .before .before .before .before .before .before .if1 .left)) (c .before .before .before .before .before .before .before .put-bytes .ensures .0) (c .before .before .before .before .before .before .before .put-bytes .ensures .1) (c .before .before .put-bytes2 .ensures .0) (c .before .before .put-bytes2 .ensures .1)
+returns-3 c = path-put _ _ _ _ _ _ (omega (arith, c .before .before .before .before .before .before .before .before .before .if2 .left, c .before .before .before .before .before .before .before .before .before .before .if1 .left)) (c .before .before .before .before .before .before .before .put-bytes .ensures .0) (c .before .before .before .before .before .before .before .put-bytes .ensures .1) (c .before .before .put-bytes2 .ensures .0) (c .before .before .put-bytes2 .ensures .1)
 
 pub put-new-path-spec : {M : Type 1} → statement M
 put-new-path-spec =

@@ -1,7 +1,7 @@
 -- `console::refusal::put_counted` meets its contract.
 use native.Mathlib.Omega.{arith}
 use borrow.Author.Needs.{needs}
-use Rattle.console.proofs.LineLaws.{few, length-counted, counted-laid}
+use Rattle.console.proofs.LineLaws.{few, length-counted, counted-put}
 use Rattle.console.proofs.refusal.put_counted.Statement.{statement}
 use Rattle.console.proofs.refusal.put_counted.Tie as tie
 
@@ -27,7 +27,7 @@ returns c =
     let second = c .before .before .before .before .before .before .before .put-decimal .ensures in
     let third = c .before .before .put-bytes2 .ensures in
     let short = few (a .n) (omega arith) in (
-      counted-laid (a .kind .now) (a .n) (a .at) _ _ (a .out .now) _ _ _ (first .1) (second .1) (first .0) (second .0) (third .0),
+      counted-put (a .kind .now) (a .n) (a .at) _ _ (a .out .now) _ _ _ (first .1) (second .1) (first .0) (second .0) (third .0),
       rw length-counted (omega (arith, first .1, second .1, third .1)),
       omega (arith, short, first .1, second .1, third .1),
     )

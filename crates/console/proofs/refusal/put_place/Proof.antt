@@ -4,7 +4,8 @@ use native.Mathlib.Omega.{arith}
 use borrow.Author.Tests.{ne-eqb}
 use borrow.Author.Needs.{needs}
 use Rattle.console.specs.Refusals.{placeText}
-use Rattle.console.proofs.LineLaws.{no-place, nothing-laid}
+use Rattle.text.proofs.PutLaws.{puts-nothing}
+use Rattle.console.proofs.LineLaws.{no-place}
 use Rattle.console.proofs.refusal.put_place.Statement.{statement}
 use Rattle.console.proofs.refusal.put_place.Tie as tie
 
@@ -46,8 +47,8 @@ returns-3 c =
     let a = c .before .before .before .before .args in
     let other = ne-eqb _ _ (c .before .before .if1 .left) in
     let none = sym (c .before .has-line .ensures) ∙ c .if2 .left in
-    let laid = nothing-laid (a .out .now) (a .at) _ (no-place (a .number) (a .place) other none) in
-    (laid .0, laid .1, omega arith)
+    let is-put = puts-nothing (a .out .now) (a .at) _ (no-place (a .number) (a .place) other none) in
+    (is-put .0, is-put .1, omega arith)
 
 pub put-place-spec : {M : Type 1} → statement M
 put-place-spec =

@@ -4,7 +4,7 @@ use native.Mathlib.Omega.{arith}
 use lib.ListN.{length-set}
 use borrow.Author.Needs.{needs}
 use Rattle.console.proofs.ReadLaws.{within}
-use Rattle.console.proofs.LineLaws.{line-laid}
+use Rattle.console.proofs.LineLaws.{line-put}
 use Rattle.console.proofs.refusal.put_refusal.Statement.{statement}
 use Rattle.console.proofs.refusal.put_refusal.Tie as tie
 
@@ -46,9 +46,9 @@ returns c =
     let third = c .before .before .before .before .before .before .before .before .before .before .before .put-place .ensures in
     let fourth = c .before .before .before .before .before .before .put-counted .ensures in
     let fifth = c .before .before .put-sentence .ensures in
-    let laid = line-laid (a .file .now) (a .number) (a .place) _ _ _ _ _ (a .out .now) _ _ _ _ _ (first .1) (second .1) (third .1) (fourth .1) (fifth .1) (first .0) (second .0) (third .0) (fourth .0) (fifth .0) in (
-      laid .0,
-      laid .1,
+    let is-put = line-put (a .file .now) (a .number) (a .place) _ _ _ _ _ (a .out .now) _ _ _ _ _ (first .1) (second .1) (third .1) (fourth .1) (fifth .1) (first .0) (second .0) (third .0) (fourth .0) (fifth .0) in (
+      is-put .0,
+      is-put .1,
       within _ _
           (rw length-set
           (omega (arith, first .1, second .1, third .2, fourth .2, fifth .2, c .before .before .put-sentence .kept .0, c .before .before .before .before .before .before .put-counted .kept .0, c .before .before .before .before .before .before .before .before .before .before .before .put-place .kept .0, c .before .before .before .before .before .before .before .before .before .before .before .before .before .before .before .put-bytes2 .kept .0, c .before .before .before .before .before .before .before .before .before .before .before .before .before .before .before .before .before .before .before .before .put-bytes .kept .0))),

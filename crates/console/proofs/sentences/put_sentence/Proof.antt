@@ -4,12 +4,13 @@ use native.Mathlib.Omega.{arith}
 use lib.ListN.{length-take}
 use lib.Seq.{length-take-le}
 use borrow.Author.Needs.{needs}
-use Rattle.console.proofs.LineLaws.{nothing-laid, none-above}
+use Rattle.text.proofs.PutLaws.{puts-nothing}
+use Rattle.console.proofs.LineLaws.{none-above}
 use Rattle.console.proofs.sentences.put_sentence.Statement.{statement}
 use Rattle.console.proofs.sentences.put_sentence.Tie as tie
 
 returns : tie.Need-returns
-returns c = let none = nothing-laid _ _ _ (none-above (c .before .before .args .number) (omega arith)) in (none .0, none .1, omega arith)
+returns c = let none = puts-nothing _ _ _ (none-above (c .before .before .args .number) (omega arith)) in (none .0, none .1, omega arith)
 
 sentence-row-requires : tie.Need-sentence-row-requires
 sentence-row-requires c κs = search needs
@@ -33,8 +34,8 @@ returns-2 : tie.Need-returns-2
 returns-2 c =
     let size = c .before .before .before .before .before .sentence-length .ensures in
     let row = c .before .before .before .before .before .before .sentence-row .ensures in
-    let laid = rw (size .0, row .1) at (c .before .before .put-bytes .ensures) in
-    (laid .0, laid .1, omega (arith, laid .1, size .0, size .1))
+    let is-put = rw (size .0, row .1) at (c .before .before .put-bytes .ensures) in
+    (is-put .0, is-put .1, omega (arith, is-put .1, size .0, size .1))
 
 pub put-sentence-spec : {M : Type 1} → statement M
 put-sentence-spec =

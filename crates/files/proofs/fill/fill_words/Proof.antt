@@ -1,99 +1,55 @@
 -- `files::fill::fill_words` meets its contract.
-use Prim.Native.Nat.{_+_, _-_, _≤_, _<_}
-use mathlib.Core.Path.{_≡_, refl, _∙_}
-use mathlib.Core.List.{_++_}
-use native.Mathlib.Nat.{sub-zero}
+use Prim.Native.Nat.{_+_, _-_}
 use native.Mathlib.Omega.{arith}
-use lib.ListN.{length, take, drop, length-set}
-use Rattle.text.specs.Questions.{accepted, firstBad}
-use Rattle.text.specs.Lines.{lines, firstLine}
-use Rattle.files.specs.MemoryFile.{wordQuestions, linesOutcome, fileWords}
-use Rattle.files.proofs.CheckLaws.{good-room, good-word, good-fits, good-next}
-use Rattle.files.proofs.FillLaws.{fill-turn, fill-end, word-lt}
+use lib.ListN.{length}
+use Rattle.files.proofs.FillLaws.{Filling, fill-start, fill-word, fill-room, fill-fits, fill-small, fill-turn, fill-end}
 use Rattle.files.proofs.fill.fill_words.Statement.{statement}
 use Rattle.files.proofs.fill.fill_words.Tie as tie
 
 abbrev Inv-loop : tie.InvT-loop
-Inv-loop text memory₀ values at₀ i₀ memory at i =
-    (take i memory ++ fileWords (length memory₀ - i) (lines (drop at text)) ≡ fileWords (length memory₀) (lines text))
-    × (firstBad (wordQuestions 8 (length memory₀)) i (lines (drop at text)) (accepted 0) .number ≡ 0)
-    × (length memory ≡ length memory₀)
-    × (at ≤ length text + 1)
-    × (i ≤ length memory₀)
+Inv-loop text memory₀ k values at₀ i₀ memory at i = Filling k (length memory₀) text memory at i
 
 abbrev μ-loop : tie.MeasureT-loop
-μ-loop text memory₀ values at₀ i₀ memory at i = length text + 1 - at
-
--- A word of the memory is left for the line at `at`, and its digits lie within the text.
-fill-room : (c : tie.After-word Inv-loop μ-loop) → c .before .before .loop .i < length (c .before .before .before .before .before .args .memory .now)
-fill-room c =
-    let l = c .before .before .loop in
-    let a = c .before .before .before .before .before .args in
-    good-room 8 (length (a .memory .now)) (a .text .now) (l .at) (l .i) (c .before .loop-test .taken) (l .inv .1)
-
-fill-fits : (c : tie.After-word Inv-loop μ-loop) → c .before .before .loop .at + 8 ≤ length (c .before .before .before .before .before .args .text .now)
-fill-fits c =
-    let l = c .before .before .loop in
-    let a = c .before .before .before .before .before .args in
-    good-fits 8 (length (a .memory .now)) (a .text .now) (l .at) (l .i) (c .before .loop-test .taken) (l .inv .1)
+μ-loop text memory₀ k values at₀ i₀ memory at i = length text + 1 - at
 
 loop-holds : tie.Need-loop-holds Inv-loop μ-loop
-unfolding linesOutcome
-loop-holds c = (rw sub-zero, c .before .before .pre .0, refl, omega arith, omega arith)
+loop-holds c = fill-start (c .before .before .pre .0)
 
 word-requires : tie.Need-word-requires Inv-loop μ-loop
-word-requires c κs =
-    let l = c .before .loop in
-    let a = c .before .before .before .before .args in
-    (good-word 8 (length (a .memory .now)) (a .text .now) (l .at) (l .i) (c .loop-test .taken) (l .inv .1), (c .loop-test .taken, (omega arith, c .before .before .before .before .pre .1)))
+word-requires c κs = (fill-word (c .before .loop .inv) (c .loop-test .taken), (c .loop-test .taken, (omega arith, c .before .before .before .before .pre .1 .1)))
 
 cast-memory : tie.Need-cast-memory Inv-loop μ-loop
-cast-memory c =
-    let l = c .before .before .loop in
-    let a = c .before .before .before .before .before .args in
-    record { fits = rw (c .word .ensures) (word-lt 8 (firstLine (drop (l .at) (a .text .now))) (good-word 8 (length (a .memory .now)) (a .text .now) (l .at) (l .i) (c .before .loop-test .taken) (l .inv .1))) }
+cast-memory c = omega (arith, fill-small (c .before .before .loop .inv) (c .before .loop-test .taken) 8 (c .before .before .before .before .before .pre .1 .0) (c .word .ensures))
 
 mul-memory : tie.Need-mul-memory Inv-loop μ-loop
-mul-memory c = let room = fill-room c in omega arith
+mul-memory c = omega (arith, fill-room (c .before .before .loop .inv) (c .before .loop-test .taken))
 
 slice-write-memory : tie.Need-slice-write-memory Inv-loop μ-loop
-slice-write-memory c = let room = fill-room c in omega arith
+slice-write-memory c = omega (arith, fill-room (c .before .before .loop .inv) (c .before .loop-test .taken))
 
 add-at : tie.Need-add-at Inv-loop μ-loop
-add-at c = let fits = fill-fits c in omega arith
+add-at c = omega (arith, fill-fits (c .before .before .loop .inv) (c .before .loop-test .taken))
+
+add-at-2 : tie.Need-add-at-2 Inv-loop μ-loop
+add-at-2 c = omega (arith, fill-fits (c .before .before .loop .inv) (c .before .loop-test .taken))
 
 add-i : tie.Need-add-i Inv-loop μ-loop
-add-i c = let room = fill-room c in omega arith
+add-i c = omega (arith, fill-room (c .before .before .loop .inv) (c .before .loop-test .taken))
 
 loop-less : tie.Need-loop-less Inv-loop μ-loop
-loop-less c = let fits = fill-fits c in omega arith
+loop-less c = omega (arith, fill-fits (c .before .before .loop .inv) (c .before .loop-test .taken))
 
 loop-again : tie.Need-loop-again Inv-loop μ-loop
-loop-again c =
-    let l = c .before .before .loop in
-    let a = c .before .before .before .before .before .args in
-    let n = length (a .memory .now) in
-    let inside = c .before .loop-test .taken in
-    let room = fill-room c in
-    let fits = fill-fits c in (
-      fill-turn 8 n (a .text .now) (l .at) (l .i) (l .memory) _ inside (omega arith) (good-word 8 n (a .text .now) (l .at) (l .i) inside (l .inv .1)) (c .word .ensures) ∙ l .inv .0,
-      good-next 8 n (a .text .now) (l .at) (l .i) inside (l .inv .1),
-      simp length-set (l .inv .2),
-      omega arith,
-      omega arith,
-    )
+loop-again c = fill-turn (c .before .before .loop .inv) (c .before .loop-test .taken) (c .word .ensures)
 
 clear-words-requires : tie.Need-clear-words-requires Inv-loop μ-loop
 clear-words-requires c κs = omega arith
 
 same-length : tie.Need-same-length Inv-loop μ-loop
-same-length c = let k = c .before .before .clear-words .kept in omega arith
+same-length c = omega (arith, c .before .before .clear-words .kept)
 
 returns : tie.Need-returns Inv-loop μ-loop
-returns c =
-    let l = c .before .before .before .before .before .loop in
-    let a = c .before .before .before .before .before .before .before .before .args in
-    fill-end 8 (length (a .memory .now)) (a .text .now) (l .at) (l .i) (l .memory) _ (l .inv .2) (omega arith) (c .before .before .clear-words .ensures) ∙ l .inv .0
+returns c = fill-end (c .before .before .before .before .before .loop .inv) (c .before .before .before .before .loop-test .left) (c .before .before .clear-words .ensures)
 
 pub fill-words-spec : {M : Type 1} → statement M
 fill-words-spec =
@@ -107,6 +63,7 @@ fill-words-spec =
     mul-memory
     slice-write-memory
     add-at
+    add-at-2
     add-i
     loop-less
     loop-again

@@ -1,14 +1,12 @@
 -- `files::read::read_data` meets its contract.
-use lib.ListN.{length}
 use borrow.Author.Tests.{eq-eqb, ne-eqb}
 use borrow.Author.Needs.{needs}
-use Rattle.files.specs.Sizes.{isDataLength}
 use Rattle.files.proofs.AnswerLaws.{read-wrong-length, read-asked}
 use Rattle.files.proofs.read.read_data.Statement.{statement}
 use Rattle.files.proofs.read.read_data.Tie as tie
 
 returns : tie.Need-returns
-returns c = let a = c .before .before .before .args in read-wrong-length 8 isDataLength (a .text .now) (a .memory .now) (ne-eqb (length (a .memory .now)) 4096 (c .if1 .taken))
+returns c = read-wrong-length (ne-eqb _ 4096 (c .if1 .taken))
 
 read-words-requires : tie.Need-read-words-requires
 read-words-requires c κs = search needs
@@ -17,9 +15,7 @@ same-length : tie.Need-same-length
 same-length c = search needs
 
 returns-2 : tie.Need-returns-2
-returns-2 c =
-    let a = c .before .before .before .before .before .before .before .args in
-    read-asked 8 isDataLength (a .text .now) (a .memory .now) (eq-eqb (length (a .memory .now)) 4096 (c .before .before .before .before .if1 .left)) _ _ (c .before .before .read-words .ensures)
+returns-2 c = read-asked (eq-eqb _ 4096 (c .before .before .before .before .if1 .left)) (c .before .before .read-words .ensures)
 
 pub read-data-spec : {M : Type 1} → statement M
 read-data-spec = tie.close (tie.spec returns read-words-requires same-length returns-2)

@@ -2,7 +2,6 @@
 use mathlib.Core.Path.{sym, _∙_}
 use borrow.Author.Tests.{not-true, not-false}
 use borrow.Author.Needs.{needs}
-use Rattle.files.specs.Sizes.{isPartLength}
 use Rattle.files.proofs.AnswerLaws.{read-wrong-length, read-asked}
 use Rattle.files.proofs.read.read_disk.Statement.{statement}
 use Rattle.files.proofs.read.read_disk.Tie as tie
@@ -11,9 +10,7 @@ is-part-requires : tie.Need-is-part-requires
 is-part-requires c κs = search needs
 
 returns : tie.Need-returns
-returns c =
-    let a = c .before .before .before .before .args in
-    read-wrong-length 8 isPartLength (a .text .now) (a .part .now) (sym (c .before .is-part .ensures) ∙ not-true _ (c .if1 .taken))
+returns c = read-wrong-length (sym (c .before .is-part .ensures) ∙ not-true _ (c .if1 .taken))
 
 read-words-requires : tie.Need-read-words-requires
 read-words-requires c κs = search needs
@@ -22,10 +19,7 @@ same-length : tie.Need-same-length
 same-length c = search needs
 
 returns-2 : tie.Need-returns-2
-returns-2 c =
-    let a = c .before .before .before .before .before .before .before .before .args in
-    read-asked 8 isPartLength (a .text .now) (a .part .now) (sym (c .before .before .before .before .before .is-part .ensures) ∙ not-false _ (c .before .before .before .before .if1 .left)) _ _ (c .before .before .read-words .ensures)
+returns-2 c = read-asked (sym (c .before .before .before .before .before .is-part .ensures) ∙ not-false _ (c .before .before .before .before .if1 .left)) (c .before .before .read-words .ensures)
 
 pub read-disk-spec : {M : Type 1} → statement M
-read-disk-spec =
-    tie.close (tie.spec is-part-requires returns read-words-requires same-length returns-2)
+read-disk-spec = tie.close (tie.spec is-part-requires returns read-words-requires same-length returns-2)

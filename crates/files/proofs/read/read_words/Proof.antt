@@ -1,10 +1,7 @@
 -- `files::read::read_words` meets its contract.
-use mathlib.Core.Path.{refl, sym, _∙_, ap}
-use mathlib.Core.Bool.{true}
+use mathlib.Core.Path.{refl, sym, _∙_}
 use borrow.Author.Needs.{needs}
-use Rattle.text.specs.declared.Outcome.{Outcome}
-use Rattle.files.specs.Answers.{fileReadOutcome}
-use Rattle.files.proofs.AnswerLaws.{read-refused, read-filled}
+use Rattle.files.proofs.AnswerLaws.{none-refused, read-filled, read-refused}
 use Rattle.files.proofs.read.read_words.Statement.{statement}
 use Rattle.files.proofs.read.read_words.Tie as tie
 
@@ -14,43 +11,20 @@ digit-values-requires c κs = search needs
 check-words-requires : tie.Need-check-words-requires
 check-words-requires c κs = search needs
 
-enum-told : tie.Need-enum-told
-enum-told c = search needs
+is-filled-requires : tie.Need-is-filled-requires
+is-filled-requires c κs = search needs
 
 fill-words-requires : tie.Need-fill-words-requires
-fill-words-requires c κs = (ap (λ (t : Outcome). t .number) (sym (c .before .before .before .before .check-words .ensures) ∙ ap fileReadOutcome (c .before .before .enum-told .given .1)), c .before .before .before .before .before .before .digit-values .ensures)
-
-enum-told-2 : tie.Need-enum-told-2
-enum-told-2 c = search needs
-
-enum-known-line : tie.Need-enum-known-line
-enum-known-line c = search needs
-
-enum-known-line-2 : tie.Need-enum-known-line-2
-enum-known-line-2 c = search needs
+fill-words-requires c κs = (none-refused (c .before .before .before .before .check-words .ensures) (sym (c .before .before .before .is-filled .ensures) ∙ c .before .before .if1 .taken), (c .before .before .before .before .before .before .before .before .before .pre, c .before .before .before .before .before .before .digit-values .ensures))
 
 same-length : tie.Need-same-length
 same-length c = search needs
 
 returns : tie.Need-returns
-returns c =
-    let a = c .before .before .before .before .before .before .before .before .before .before .before .before .args in
-    read-filled 8 (λ n. true) (a .text .now) (a .memory .now) refl _ (sym (ap fileReadOutcome (c .before .before .before .before .before .enum-told .given .1)) ∙ c .before .before .before .before .before .before .before .check-words .ensures) (c .before .before .fill-words .ensures)
+returns c = read-filled refl (c .before .before .before .before .before .before .before .check-words .ensures) (sym (c .before .before .before .before .before .before .is-filled .ensures) ∙ c .before .before .before .before .before .if1 .taken) (c .before .before .fill-words .ensures)
 
 returns-2 : tie.Need-returns-2
-returns-2 c =
-    let a = c .before .before .before .before .before .before .before .args in
-    read-refused 8 (λ n. true) (a .text .now) (a .memory .now) refl _ (sym (ap fileReadOutcome (c .enum-told2 .given .1)) ∙ c .before .before .check-words .ensures) refl
-
-returns-3 : tie.Need-returns-3
-returns-3 c =
-    let a = c .before .before .before .before .before .before .before .before .args in
-    read-refused 8 (λ n. true) (a .text .now) (a .memory .now) refl _ (sym (ap fileReadOutcome (c .before .line .given .1)) ∙ c .before .before .before .check-words .ensures) refl
-
-returns-4 : tie.Need-returns-4
-returns-4 c =
-    let a = c .before .before .before .before .before .before .before .before .args in
-    read-refused 8 (λ n. true) (a .text .now) (a .memory .now) refl _ (sym (ap fileReadOutcome (c .before .line2 .given .1)) ∙ c .before .before .before .check-words .ensures) refl
+returns-2 c = read-refused refl (c .before .before .check-words .ensures) (sym (c .before .is-filled .ensures) ∙ c .if1 .left)
 
 pub read-words-spec : {M : Type 1} → statement M
 read-words-spec =
@@ -58,13 +32,8 @@ read-words-spec =
     (tie.spec
     digit-values-requires
     check-words-requires
-    enum-told
+    is-filled-requires
     fill-words-requires
-    enum-told-2
-    enum-known-line
-    enum-known-line-2
     same-length
     returns
-    returns-2
-    returns-3
-    returns-4)
+    returns-2)

@@ -1,38 +1,28 @@
 -- `files::write::write_data` meets its contract.
-use native.Mathlib.Omega.{arith}
-use lib.ListN.{length}
-use borrow.Author.Tests.{eq-eqb, ne-eqb}
 use borrow.Author.Needs.{needs}
-use Rattle.files.specs.MemoryFile.{fileText}
-use Rattle.files.proofs.LayLaws.{length-text}
-use Rattle.files.proofs.AnswerLaws.{wrong-length, no-room, wrote}
+use Rattle.files.proofs.AnswerLaws.{memory-wrong, memory-no-room, memory-wrote}
 use Rattle.files.proofs.write.write_data.Statement.{statement}
 use Rattle.files.proofs.write.write_data.Tie as tie
 
 returns : tie.Need-returns
-returns c = let a = c .before .before .before .args in wrong-length _ (fileText 8 (a .memory .now)) (a .text .now) (ne-eqb (length (a .memory .now)) 4096 (c .if1 .taken))
+returns c = memory-wrong 8 4096 (c .before .before .before .args .memory .now) (c .if1 .taken)
 
 returns-2 : tie.Need-returns-2
-returns-2 c =
-    let a = c .before .before .before .before .args in
-    no-room _ (fileText 8 (a .memory .now)) (a .text .now) (eq-eqb (length (a .memory .now)) 4096 (c .before .if1 .left)) (rw length-text (omega arith))
+returns-2 c = memory-no-room 8 4096 (c .before .before .before .before .args .memory .now) (c .before .if1 .left) (c .if2 .taken)
 
 hex-pairs-requires : tie.Need-hex-pairs-requires
 hex-pairs-requires c κs = search needs
 
-lay-words-requires : tie.Need-lay-words-requires
-lay-words-requires c κs = search needs
+put-words-requires : tie.Need-put-words-requires
+put-words-requires c κs = search needs
 
 same-length : tie.Need-same-length
 same-length c = search needs
 
 returns-3 : tie.Need-returns-3
-returns-3 c =
-    let a = c .before .before .before .before .before .before .before .before .before .before .args in
-    let laid = c .before .before .lay-words in
-    wrote _ (fileText 8 (a .memory .now)) (a .text .now) (eq-eqb (length (a .memory .now)) 4096 (c .before .before .before .before .before .before .before .if1 .left)) _ _ (rw length-text (omega arith)) (rw length-text (omega arith)) (laid .ensures .0)
+returns-3 c = memory-wrote 8 4096 (c .before .before .before .before .before .before .before .before .before .before .args .memory .now) (c .before .before .before .before .before .before .before .if1 .left) (c .before .before .before .before .before .before .if2 .left) (c .before .before .put-words .ensures)
 
 pub write-data-spec : {M : Type 1} → statement M
 write-data-spec =
     tie.close
-    (tie.spec returns returns-2 hex-pairs-requires lay-words-requires same-length returns-3)
+    (tie.spec returns returns-2 hex-pairs-requires put-words-requires same-length returns-3)

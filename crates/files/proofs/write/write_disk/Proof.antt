@@ -6,7 +6,6 @@ use lib.ListN.{length}
 use borrow.Author.Tests.{not-true, not-false}
 use borrow.Author.Needs.{needs}
 use Rattle.files.specs.Sizes.{isDiskPart}
-use Rattle.files.specs.MemoryFile.{fileText, sectorsOf}
 use Rattle.files.proofs.SizeLaws.{part-words, part-within, length-part}
 use Rattle.files.proofs.AnswerLaws.{wrong-length, no-room, wrote}
 use Rattle.files.proofs.write.write_disk.Statement.{statement}
@@ -20,9 +19,7 @@ is-part-of-requires : tie.Need-is-part-of-requires
 is-part-of-requires c κs = search needs
 
 returns : tie.Need-returns
-returns c =
-    let a = c .before .before .before .before .args in
-    wrong-length _ (fileText 8 (sectorsOf (a .disk .now) (a .first) (a .sectors))) (a .text .now) (sym (c .before .is-part-of .ensures) ∙ not-true _ (c .if1 .taken))
+returns c = wrong-length (sym (c .before .is-part-of .ensures) ∙ not-true _ (c .if1 .taken))
 
 mul-if2 : tie.Need-mul-if2
 mul-if2 c =
@@ -34,13 +31,13 @@ returns-2 : tie.Need-returns-2
 returns-2 c =
     let a = c .before .before .before .before .before .args in
     let yes-part = part-yes (c .before) in
-    no-room _ (fileText 8 (sectorsOf (a .disk .now) (a .first) (a .sectors))) (a .text .now) yes-part (rw (length-part (a .disk .now) (a .first) (a .sectors) yes-part) (omega arith))
+    no-room yes-part (rw (length-part (a .disk .now) (a .first) (a .sectors) yes-part) (omega arith))
 
 hex-pairs-requires : tie.Need-hex-pairs-requires
 hex-pairs-requires c κs = search needs
 
-lay-sectors-requires : tie.Need-lay-sectors-requires
-lay-sectors-requires c κs =
+put-sectors-requires : tie.Need-put-sectors-requires
+put-sectors-requires c κs =
     let a = c .before .before .before .before .before .before .before .before .args in
     let h = part-yes (c .before .before .before .before) in
     (part-words (length (a .disk .now)) (a .first) (a .sectors) h, (part-within (length (a .disk .now)) (a .first) (a .sectors) h, (omega arith, c .before .before .hex-pairs .ensures)))
@@ -53,8 +50,8 @@ returns-3 c =
     let a = c .before .before .before .before .before .before .before .before .before .before .before .args in
     let h = part-yes (c .before .before .before .before .before .before .before) in
     let size = length-part (a .disk .now) (a .first) (a .sectors) h in
-    let laid = c .before .before .lay-sectors in
-    wrote _ (fileText 8 (sectorsOf (a .disk .now) (a .first) (a .sectors))) (a .text .now) h _ _ (rw size (omega arith)) (laid .ensures .1 ∙ sym size) (laid .ensures .0)
+    let p = c .before .before .put-sectors .ensures in
+    wrote h (rw size (omega arith)) (p .1 ∙ sym size) (p .0)
 
 pub write-disk-spec : {M : Type 1} → statement M
 write-disk-spec =
@@ -65,6 +62,6 @@ write-disk-spec =
     mul-if2
     returns-2
     hex-pairs-requires
-    lay-sectors-requires
+    put-sectors-requires
     same-length
     returns-3)

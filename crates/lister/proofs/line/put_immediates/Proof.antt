@@ -2,7 +2,7 @@
 use native.Mathlib.Omega.{arith}
 use lib.ListN.{length-set}
 use borrow.Author.Needs.{needs}
-use Rattle.lister.proofs.LineLaws.{immediates-laid}
+use Rattle.lister.proofs.LineLaws.{immediates-put}
 use Rattle.lister.proofs.line.put_immediates.Statement.{statement}
 use Rattle.lister.proofs.line.put_immediates.Tie as tie
 
@@ -30,7 +30,7 @@ returns c =
     let first = c .before .before .before .before .before .before .before .before .before .before .put-immediate .ensures in
     let comma = c .before .before .before .before .before .before .put-comma .ensures in
     let second = c .before .before .put-immediate2 .ensures in
-    (immediates-laid (a .imm1) (a .imm2) (a .at) _ _ _ (a .out .now) _ _ _ (first .1) (comma .1) (second .1) (first .0) (comma .0) (second .0), omega arith)
+    (immediates-put (a .imm1) (a .imm2) (a .at) _ _ _ (a .out .now) _ _ _ (first .1) (comma .1) (second .1) (first .0) (comma .0) (second .0), omega arith)
 
 pub put-immediates-spec : {M : Type 1} → statement M
 put-immediates-spec =

@@ -1,7 +1,7 @@
 -- `lister::line::put_line` meets its contract.
 use native.Mathlib.Omega.{arith}
 use borrow.Author.Needs.{needs}
-use Rattle.lister.proofs.LineLaws.{fits, length-pieces, line-laid}
+use Rattle.lister.proofs.LineLaws.{fits, length-pieces, line-put}
 use Rattle.lister.proofs.line.put_line.Statement.{statement}
 use Rattle.lister.proofs.line.put_line.Tie as tie
 
@@ -23,7 +23,7 @@ put-registers-requires c κs =
     let d = c .before .before .before .before .before .before .decode in
     let f = fits (s .args .word) _ (d .ensures) in
     let whole = length-pieces (s .args .word) _ (d .ensures) in
-    let laid = rw (c .before .before .before .before .operation-place .ensures .1) at (c .before .before .before .put-piece .ensures .1) in
+    let is-put = rw (c .before .before .before .before .operation-place .ensures .1) at (c .before .before .before .put-piece .ensures .1) in
     (f .rd, f .rs, f .rt, f .rm, omega (arith, s .pre .0), s .pre .1)
 
 put-immediates-requires : tie.Need-put-immediates-requires
@@ -32,7 +32,7 @@ put-immediates-requires c κs =
     let d = c .before .before .before .before .before .before .before .before .before .before .decode in
     let f = fits (s .args .word) _ (d .ensures) in
     let whole = length-pieces (s .args .word) _ (d .ensures) in
-    let laid = rw (c .before .before .before .before .before .before .before .before .operation-place .ensures .1) at (c .before .before .before .before .before .before .before .put-piece .ensures .1) in
+    let is-put = rw (c .before .before .before .before .before .before .before .before .operation-place .ensures .1) at (c .before .before .before .before .before .before .before .put-piece .ensures .1) in
     (f .imm1, (f .imm2, omega (arith, s .pre .0)))
 
 same-length : tie.Need-same-length
@@ -47,7 +47,7 @@ returns c =
     let registers = c .before .before .before .before .before .before .put-registers .ensures in
     let immediates = c .before .before .put-immediates .ensures in
     let whole = length-pieces (a .word) _ (d .ensures) in
-    (line-laid (a .word) _ (a .at) _ _ (a .out .now) _ _ _ (d .ensures) (name .0) (registers .0) (immediates .0), omega arith)
+    (line-put (a .word) _ (a .at) _ _ (a .out .now) _ _ _ (d .ensures) (name .0) (registers .0) (immediates .0), omega arith)
 
 pub put-line-spec : {M : Type 1} → statement M
 put-line-spec =

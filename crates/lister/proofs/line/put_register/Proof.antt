@@ -1,7 +1,7 @@
 -- `lister::line::put_register` meets its contract.
 use native.Mathlib.Omega.{arith}
 use borrow.Author.Needs.{needs}
-use Rattle.lister.proofs.LineLaws.{register-least, register-laid}
+use Rattle.lister.proofs.LineLaws.{register-least, register-put}
 use Rattle.lister.proofs.line.put_register.Statement.{statement}
 use Rattle.lister.proofs.line.put_register.Tie as tie
 
@@ -21,7 +21,7 @@ returns c =
     let s = c .before .before .before .before .before .before in
     let there = c .before .before .before .register-place .ensures .1 in
     let e = rw there at (c .before .before .put-piece .ensures) in
-    (register-laid (s .args .n) _ _ (s .args .at) _ (s .pre .0) (e .0), e .1)
+    (register-put (s .args .n) _ _ (s .args .at) _ (s .pre .0) (e .0), e .1)
 
 pub put-register-spec : {M : Type 1} → statement M
 put-register-spec =

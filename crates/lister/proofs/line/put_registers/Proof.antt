@@ -1,7 +1,7 @@
 -- `lister::line::put_registers` meets its contract.
 use native.Mathlib.Omega.{arith}
 use borrow.Author.Needs.{needs}
-use Rattle.lister.proofs.LineLaws.{length-registers, registers-laid}
+use Rattle.lister.proofs.LineLaws.{length-registers, registers-put}
 use Rattle.lister.proofs.line.put_registers.Statement.{statement}
 use Rattle.lister.proofs.line.put_registers.Tie as tie
 
@@ -39,7 +39,7 @@ returns c =
     let rs = c .before .before .before .before .before .before .before .before .before .before .put-register2 .ensures in
     let rt = c .before .before .before .before .before .before .put-register3 .ensures in
     let rm = c .before .before .put-register4 .ensures in
-    (registers-laid (a .rd) (a .rs) (a .rt) (a .rm) (a .at) _ _ _ _ (a .out .now) _ _ _ _ (rd .0) (rs .0) (rt .0) (rm .0), omega (arith, length-registers (a .rd) (a .rs) (a .rt) (a .rm)))
+    (registers-put (a .rd) (a .rs) (a .rt) (a .rm) (a .at) _ _ _ _ (a .out .now) _ _ _ _ (rd .0) (rs .0) (rt .0) (rm .0), omega (arith, length-registers (a .rd) (a .rs) (a .rt) (a .rm)))
 
 pub put-registers-spec : {M : Type 1} → statement M
 put-registers-spec =

@@ -1,4 +1,5 @@
 -- `memories::cycles::load_irq2` meets its contract.
+use native.Mathlib.Omega.{arith}
 use borrow.Author.Needs.{needs}
 use Rattle.memories.proofs.cycles.load_irq2.Statement.{statement}
 use Rattle.memories.proofs.cycles.load_irq2.Tie as tie
@@ -12,20 +13,17 @@ read-front-requires c κs = search needs
 enum-known-n : tie.Need-enum-known-n
 enum-known-n c = search needs
 
-array-share-prefix-text : tie.Need-array-share-prefix-text
-array-share-prefix-text c = let got = rw (c .before .n .given .1) at (c .before .before .before .before .read-front .ensures) in got .0
-
 slice-aggregate-fill-cycles : tie.Need-slice-aggregate-fill-cycles
-slice-aggregate-fill-cycles c = let got = rw (c .before .before .n .given .1) at (c .before .before .before .before .before .read-front .ensures) in got .1
+slice-aggregate-fill-cycles c = search needs
 
 fill-cycles-requires : tie.Need-fill-cycles-requires
-fill-cycles-requires c κs = search needs
+fill-cycles-requires c κs = let got = rw (c .before .before .before .n .given .1) at (c .before .before .before .before .before .before .read-front .ensures) in (omega (arith, c .before .before .before .before .before .before .read-front .kept .1 .0), got .0)
 
 same-length : tie.Need-same-length
 same-length c = search needs
 
 returns : tie.Need-returns
-returns c = search needs
+returns c = (_, c .before .before .fill-cycles .ensures .front)
 
 enum-told : tie.Need-enum-told
 enum-told c = search needs
@@ -40,7 +38,6 @@ load-irq2-spec =
     slice-aggregate-read-front
     read-front-requires
     enum-known-n
-    array-share-prefix-text
     slice-aggregate-fill-cycles
     fill-cycles-requires
     same-length

@@ -4,7 +4,8 @@ use native.Mathlib.Omega.{arith}
 use lib.ListN.{length}
 use lib.Seq.{length-take-le}
 use borrow.Author.Needs.{needs}
-use Rattle.memories.proofs.LoadLaws.{part-most, front-read}
+use Rattle.files.proofs.FrontLaws.{front-read}
+use Rattle.memories.proofs.LoadLaws.{part-most}
 use Rattle.memories.proofs.load.fill_disk.Statement.{statement}
 use Rattle.memories.proofs.load.fill_disk.Tie as tie
 

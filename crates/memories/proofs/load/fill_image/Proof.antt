@@ -5,7 +5,7 @@ use lib.ListN.{length}
 use lib.Seq.{length-take-le}
 use borrow.Author.Tests.{eqb-true}
 use borrow.Author.Needs.{needs}
-use Rattle.memories.proofs.LoadLaws.{front-read}
+use Rattle.files.proofs.FrontLaws.{front-read}
 use Rattle.memories.proofs.load.fill_image.Statement.{statement}
 use Rattle.memories.proofs.load.fill_image.Tie as tie
 

@@ -1,7 +1,7 @@
 -- `memories::load::load_data` meets its contract.
 use native.Mathlib.Omega.{arith}
 use borrow.Author.Needs.{needs}
-use Rattle.memories.proofs.LoadLaws.{file-read}
+use Rattle.files.proofs.FrontLaws.{file-read}
 use Rattle.memories.proofs.load.load_data.Statement.{statement}
 use Rattle.memories.proofs.load.load_data.Tie as tie
 

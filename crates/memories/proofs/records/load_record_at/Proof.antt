@@ -1,4 +1,5 @@
 -- `memories::records::load_record_at` meets its contract.
+use native.Mathlib.Omega.{arith}
 use borrow.Author.Needs.{needs}
 use Rattle.memories.proofs.RecordLaws.{sound-read, fresh-read}
 use Rattle.memories.proofs.records.load_record_at.Statement.{statement}
@@ -13,17 +14,14 @@ read-front-at-requires c κs = search needs
 enum-known-n : tie.Need-enum-known-n
 enum-known-n c = search needs
 
-array-share-prefix-bytes : tie.Need-array-share-prefix-bytes
-array-share-prefix-bytes c = let got = rw (c .before .n .given .1) at (c .before .before .before .before .read-front-at .ensures) in got .0
-
 slice-aggregate-record-of : tie.Need-slice-aggregate-record-of
-slice-aggregate-record-of c = let got = rw (c .before .before .n .given .1) at (c .before .before .before .before .before .read-front-at .ensures) in got .1
+slice-aggregate-record-of c = search needs
 
 record-of-requires : tie.Need-record-of-requires
-record-of-requires c κs = search needs
+record-of-requires c κs = let got = rw (c .before .before .n .given .1) at (c .before .before .before .before .before .read-front-at .ensures) in (omega (arith, c .before .before .before .before .before .read-front-at .kept .1 .0), got .0)
 
 returns : tie.Need-returns
-returns c = sound-read _ _ (c .record-of .ensures)
+returns c = let got = rw (c .before .before .before .n .given .1) at (c .before .before .before .before .before .before .read-front-at .ensures) in sound-read _ _ _ (got .0) (c .record-of .ensures)
 
 enum-told : tie.Need-enum-told
 enum-told c = search needs
@@ -41,7 +39,6 @@ load-record-at-spec =
     slice-aggregate-read-front-at
     read-front-at-requires
     enum-known-n
-    array-share-prefix-bytes
     slice-aggregate-record-of
     record-of-requires
     returns

@@ -1,7 +1,7 @@
 -- `outputs::core_lines::put_core_lines` meets its contract.
 use native.Mathlib.Omega.{arith}
 use borrow.Author.Needs.{needs}
-use Rattle.outputs.proofs.RecordLaws.{core-laid}
+use Rattle.outputs.proofs.RecordLaws.{core-put}
 use Rattle.outputs.proofs.core_lines.put_core_lines.Statement.{statement}
 use Rattle.outputs.proofs.core_lines.put_core_lines.Tie as tie
 
@@ -46,8 +46,8 @@ returns c =
     let third = c .before .before .before .before .before .before .before .before .before .before .before .before .before .put-pc-line .ensures in
     let fourth = c .before .before .before .before .before .before .before .before .put-number-line2 .ensures in
     let fifth = c .before .before .put-number-line3 .ensures in
-    let laid = core-laid (a .core) (a .out .now) _ _ _ _ _ _ _ _ _ _ (first .0) (first .1) (second .0, second .1) (third .0, third .1) (fourth .0, fourth .1) (fifth .0, fifth .1) in
-    (laid .0, laid .1, omega (arith, first .2, second .2, third .2, fourth .2, fifth .2))
+    let is-put = core-put (a .core) (a .out .now) _ _ _ _ _ _ _ _ _ _ (first .0) (first .1) (second .0, second .1) (third .0, third .1) (fourth .0, fourth .1) (fifth .0, fifth .1) in
+    (is-put .0, is-put .1, omega (arith, first .2, second .2, third .2, fourth .2, fifth .2))
 
 pub put-core-lines-spec : {M : Type 1} → statement M
 put-core-lines-spec =

@@ -32,8 +32,8 @@ returns c =
     let a = c .before .before .before .before .before .before .before .before .before .before .args in
     let first = c .before .before .before .before .before .before .put-bytes .ensures in
     let second = c .before .before .put-pc .ensures in
-    let laid = ended (a .out .now) _ (a .at) _ _ (placed _ (a .pc) (a .at) _ _ (a .out .now) _ _ first (second .0) (second .1)) in
-    (laid .0, laid .1, omega (arith, first .1, second .1))
+    let is-put = ended (a .out .now) _ (a .at) _ _ (placed _ (a .pc) (a .at) _ _ (a .out .now) _ _ first (second .0) (second .1)) in
+    (is-put .0, is-put .1, omega (arith, first .1, second .1))
 
 pub put-pc-line-spec : {M : Type 1} → statement M
 put-pc-line-spec =

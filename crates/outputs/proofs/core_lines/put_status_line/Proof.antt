@@ -29,8 +29,8 @@ unfolding statusLine
 returns c =
     let d = c .before .before .before .before .before .before .before .args .out .now in
     let e = c .before .before .put-status .ensures in
-    let laid = ended d _ 0 _ _ (e .0, e .1) in
-    (laid .0, at-front d _ _ _ laid, omega (arith, e .2))
+    let is-put = ended d _ 0 _ _ (e .0, e .1) in
+    (is-put .0, at-front d _ _ _ is-put, omega (arith, e .2))
 
 pub put-status-line-spec : {M : Type 1} → statement M
 put-status-line-spec =

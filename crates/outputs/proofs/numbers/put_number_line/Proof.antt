@@ -28,8 +28,8 @@ returns c =
     let a = c .before .before .before .before .before .before .before .before .before .before .args in
     let first = c .before .before .before .before .before .before .put-bytes .ensures in
     let second = c .before .before .put-decimal .ensures in
-    let laid = ended (a .out .now) _ (a .at) _ _ (numbered (a .front .now) (a .v) (a .at) _ _ (a .out .now) _ _ first (second .0) (second .1)) in
-    (laid .0, laid .1, omega (arith, count-le 10 (omega arith) 19 (a .v) (omega arith), first .1, second .1))
+    let is-put = ended (a .out .now) _ (a .at) _ _ (numbered (a .front .now) (a .v) (a .at) _ _ (a .out .now) _ _ first (second .0) (second .1)) in
+    (is-put .0, is-put .1, omega (arith, count-le 10 (omega arith) 19 (a .v) (omega arith), first .1, second .1))
 
 pub put-number-line-spec : {M : Type 1} → statement M
 put-number-line-spec =

@@ -4,7 +4,7 @@ use native.Mathlib.Omega.{arith}
 use lib.ListN.{length-set}
 use borrow.Author.Needs.{needs}
 use Rattle.outputs.proofs.PieceLaws.{counted}
-use Rattle.outputs.proofs.StopLaws.{reason-laid}
+use Rattle.outputs.proofs.StopLaws.{reason-put}
 use Rattle.outputs.proofs.reason.put_reason.Statement.{statement}
 use Rattle.outputs.proofs.reason.put_reason.Tie as tie
 
@@ -42,11 +42,11 @@ returns c =
     let second = c .before .before .before .before .before .before .before .before .before .before .before .put-pc .ensures in
     let third = c .before .before .before .before .before .before .put-bytes2 .ensures in
     let fourth = c .before .before .put-cause .ensures in
-    let laid = reason-laid (a .core) (a .at) _ _ _ _ (a .out .now) _ _ _ _ first (second .0) (second .1) third (fourth .0, fourth .1) in (
-      laid .0,
-      laid .1,
+    let is-put = reason-put (a .core) (a .at) _ _ _ _ (a .out .now) _ _ _ _ first (second .0) (second .1) third (fourth .0, fourth .1) in (
+      is-put .0,
+      is-put .1,
       omega (arith, first .1, second .1, third .1, fourth .2),
-      counted (a .out .now) _ (a .at) _ _ (laid .0) (omega (arith, first .1, second .1, third .1, fourth .2)),
+      counted (a .out .now) _ (a .at) _ _ (is-put .0) (omega (arith, first .1, second .1, third .1, fourth .2)),
     )
 
 pub put-reason-spec : {M : Type 1} → statement M

@@ -2,7 +2,7 @@
 use native.Mathlib.Omega.{arith}
 use borrow.Author.Needs.{needs}
 use Rattle.outputs.proofs.PieceLaws.{counted}
-use Rattle.outputs.proofs.RecordLaws.{record-laid}
+use Rattle.outputs.proofs.RecordLaws.{record-put}
 use Rattle.outputs.proofs.record.put_record.Statement.{statement}
 use Rattle.outputs.proofs.record.put_record.Tie as tie
 
@@ -27,11 +27,11 @@ returns c =
     let first = c .before .before .before .before .before .before .before .before .before .before .before .before .before .before .put-core-lines .ensures in
     let second = c .before .before .before .before .before .before .before .before .put-register-lines .ensures in
     let third = c .before .before .put-io-lines .ensures in
-    let laid = record-laid (a .r) (a .out .now) _ _ _ _ _ _ (first .0) (first .1) (second .0, second .1) (third .0, third .1) in (
-      laid .0,
-      laid .1,
+    let is-put = record-put (a .r) (a .out .now) _ _ _ _ _ _ (first .0) (first .1) (second .0, second .1) (third .0, third .1) in (
+      is-put .0,
+      is-put .1,
       omega (arith, first .2, second .2, third .2),
-      counted (a .out .now) _ 0 _ _ (laid .0) (omega (arith, first .2, second .2, third .2)),
+      counted (a .out .now) _ 0 _ _ (is-put .0) (omega (arith, first .2, second .2, third .2)),
     )
 
 pub put-record-spec : {M : Type 1} → statement M

@@ -2,7 +2,7 @@
 use native.Mathlib.Omega.{arith}
 use borrow.Author.Needs.{needs}
 use Rattle.isa.proofs.IoLaws.{name-length}
-use Rattle.outputs.proofs.RegisterLaws.{word-laid}
+use Rattle.outputs.proofs.RegisterLaws.{word-put}
 use Rattle.outputs.proofs.register_lines.put_io_line.Statement.{statement}
 use Rattle.outputs.proofs.register_lines.put_io_line.Tie as tie
 
@@ -23,8 +23,8 @@ returns c =
     let a = c .before .before .before .before .before .before .before .before .before .args in
     let first = c .before .before .before .before .before .before .put-io-name .ensures in
     let second = c .before .before .put-last-word .ensures in
-    let laid = word-laid _ (a .x) (a .at) _ _ (a .out .now) _ _ first (second .0) (second .1) in
-    (laid .0, laid .1, omega (arith, name-length (a .n), first .1, second .1))
+    let is-put = word-put _ (a .x) (a .at) _ _ (a .out .now) _ _ first (second .0) (second .1) in
+    (is-put .0, is-put .1, omega (arith, name-length (a .n), first .1, second .1))
 
 pub put-io-line-spec : {M : Type 1} → statement M
 put-io-line-spec =

@@ -1,7 +1,7 @@
 -- `outputs::register_lines::put_register_line` meets its contract.
 use native.Mathlib.Omega.{arith}
 use borrow.Author.Needs.{needs}
-use Rattle.outputs.proofs.RegisterLaws.{register-laid}
+use Rattle.outputs.proofs.RegisterLaws.{register-put}
 use Rattle.outputs.proofs.register_lines.put_register_line.Statement.{statement}
 use Rattle.outputs.proofs.register_lines.put_register_line.Tie as tie
 
@@ -36,8 +36,8 @@ returns : tie.Need-returns
 returns c =
     let a = c .before .before .before .before .before .before .before .before .before .before .before .before .before .args in
     let second = c .before .before .put-last-word .ensures in
-    let laid = register-laid (a .i) (a .x) (a .at) _ _ (a .out .now) _ _ (omega arith) (c .before .before .before .before .before .before .put-bytes .ensures) (second .0) (second .1) in
-    (laid .0 .0, laid .0 .1, laid .1)
+    let is-put = register-put (a .i) (a .x) (a .at) _ _ (a .out .now) _ _ (omega arith) (c .before .before .before .before .before .before .put-bytes .ensures) (second .0) (second .1) in
+    (is-put .0 .0, is-put .0 .1, is-put .1)
 
 pub put-register-line-spec : {M : Type 1} → statement M
 put-register-line-spec =

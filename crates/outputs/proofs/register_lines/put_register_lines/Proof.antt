@@ -54,8 +54,8 @@ returns : tie.Need-returns Inv-loop μ-loop
 returns c =
     let a = c .before .before .before .args in
     let l = c .before .loop in
-    let laid = all-lines (registerLine (a .regs .now)) savedRegisters (a .out .now) (a .at) (l .i) (l .out) (l .end) (omega arith) (l .inv .0) in
-    (laid .0, laid .1, omega arith)
+    let is-put = all-lines (registerLine (a .regs .now)) savedRegisters (a .out .now) (a .at) (l .i) (l .out) (l .end) (omega arith) (l .inv .0) in
+    (is-put .0, is-put .1, omega arith)
 
 pub put-register-lines-spec : {M : Type 1} → statement M
 put-register-lines-spec =

@@ -2,7 +2,7 @@
 use native.Mathlib.Omega.{arith}
 use borrow.Author.Needs.{needs}
 use Rattle.text.proofs.DecimalLaws.{count-le}
-use Rattle.outputs.proofs.StopLaws.{status-laid}
+use Rattle.outputs.proofs.StopLaws.{status-put}
 use Rattle.outputs.proofs.status.put_status.Statement.{statement}
 use Rattle.outputs.proofs.status.put_status.Tie as tie
 
@@ -28,8 +28,8 @@ returns c =
     let second = c .before .before .before .before .before .before .before .before .before .before .put-decimal .ensures in
     let third = c .before .before .before .before .before .before .put-bytes2 .ensures in
     let fourth = c .before .before .put-status-words .ensures in
-    let laid = status-laid (a .front .now) (a .between .now) (a .status) (a .at) _ _ _ _ (a .out .now) _ _ _ _ first (second .0) (second .1) third (fourth .0, fourth .1) in
-    (laid .0, laid .1, omega (arith, count-le 10 (omega arith) 9 (a .status) (omega arith), first .1, second .1, third .1, fourth .2))
+    let is-put = status-put (a .front .now) (a .between .now) (a .status) (a .at) _ _ _ _ (a .out .now) _ _ _ _ first (second .0) (second .1) third (fourth .0, fourth .1) in
+    (is-put .0, is-put .1, omega (arith, count-le 10 (omega arith) 9 (a .status) (omega arith), first .1, second .1, third .1, fourth .2))
 
 pub put-status-spec : {M : Type 1} → statement M
 put-status-spec =

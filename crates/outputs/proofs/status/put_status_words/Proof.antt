@@ -3,16 +3,17 @@ use mathlib.Core.Path.{refl}
 use native.Mathlib.Omega.{arith}
 use borrow.Author.Needs.{needs}
 use Rattle.text.specs.Same.{same}
-use Rattle.names.proofs.NameLaws.{nothing-laid}
+use Rattle.text.proofs.PutLaws.{puts-nothing}
+use Rattle.text.proofs.SameLaws.{parts-rule}
 use Rattle.outputs.specs.Statuses.{statusWords}
-use Rattle.outputs.proofs.StopLaws.{no-words, words-rule}
+use Rattle.outputs.proofs.StopLaws.{no-words}
 use Rattle.outputs.proofs.status.put_status_words.Statement.{statement}
 use Rattle.outputs.proofs.status.put_status_words.Tie as tie
 
 returns : tie.Need-returns
 returns c =
     let a = c .before .before .args in
-    let none = nothing-laid (a .out .now) (a .at) _ (no-words (a .status) (omega arith)) in
+    let none = puts-nothing (a .out .now) (a .at) _ (no-words (a .status) (omega arith)) in
     (none .0, none .1, omega arith)
 
 mul-from : tie.Need-mul-from
@@ -44,8 +45,8 @@ unfolding statusWords same
 returns-2 c =
     let a = c .before .before .before .before .before .before .before .before .before .args in
     let size = c .before .before .before .before .before .before .words-length .ensures in
-    let laid = rw (words-rule _ refl (a .status) _ (omega arith) (size .0)) at (c .before .before .put-bytes .ensures) in
-    (laid .0, laid .1, omega (arith, laid .1, size .0, size .1))
+    let is-put = rw (parts-rule statusWords 6 42 _ refl (a .status) _ (omega arith) (size .0)) at (c .before .before .put-bytes .ensures) in
+    (is-put .0, is-put .1, omega (arith, is-put .1, size .0, size .1))
 
 pub put-status-words-spec : {M : Type 1} → statement M
 put-status-words-spec =

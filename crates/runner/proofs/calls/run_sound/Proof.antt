@@ -11,14 +11,14 @@ hex-words-requires c κs = search needs
 all-registers-requires : tie.Need-all-registers-requires
 all-registers-requires c κs = search needs
 
-lay-registers-requires : tie.Need-lay-registers-requires
-lay-registers-requires c κs = search needs
+put-registers-requires : tie.Need-put-registers-requires
+put-registers-requires c κs = search needs
 
 make-cycles-requires : tie.Need-make-cycles-requires
 make-cycles-requires c κs =
     let p = c .before .before .before .before .before .before .before .before .before .before .before .before .before .before .before .before .before .before .before .before .before .before .pre in
     let r = c .before .before .before .before .before .before .before .before .before .before .before .before .before .all-registers .ensures in
-    ((rw (r .0) (sound-yes _ (p .0)), p .1 .0), (p .1 .1 .0, (record { sixteen = r .1 .0; zero = r .1 .1; is = c .before .before .before .before .before .before .before .before .lay-registers .ensures }, (c .before .before .before .before .before .before .before .before .before .before .before .before .before .before .before .hex-words .ensures, p .1 .1 .1))))
+    ((rw (r .0) (sound-yes _ (p .0)), p .1 .0), (p .1 .1 .0, (record { sixteen = r .1 .0; zero = r .1 .1; is = c .before .before .before .before .before .before .before .before .put-registers .ensures }, (c .before .before .before .before .before .before .before .before .before .before .before .before .before .before .before .hex-words .ensures, p .1 .1 .1))))
 
 kept-registers-requires : tie.Need-kept-registers-requires
 kept-registers-requires c κs = search needs
@@ -48,7 +48,7 @@ run-sound-spec =
     (tie.spec
     hex-words-requires
     all-registers-requires
-    lay-registers-requires
+    put-registers-requires
     make-cycles-requires
     kept-registers-requires
     same-length

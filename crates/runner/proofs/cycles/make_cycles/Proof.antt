@@ -9,8 +9,8 @@ use Rattle.machine.specs.declared.Core.{Core}
 use Rattle.trace.specs.Prefixes.{IsPrefix}
 use Rattle.trace.proofs.PrefixLaws.{no-prefix}
 use Rattle.executor.specs.Lent.{packed}
-use Rattle.runner.specs.Irq2Place.{awaitedAt}
-use Rattle.runner.proofs.Irq2Laws.{hit-at}
+use Rattle.irq2_list.specs.Places.{awaitedAt}
+use Rattle.irq2_list.proofs.PlaceLaws.{hit-at}
 use Rattle.runner.proofs.TurnLaws.{Turning, turn}
 use Rattle.runner.proofs.GoLaws.{Under, sets-out, ends-last, ends-there, has-room, goes-round, older}
 use Rattle.runner.proofs.cycles.make_cycles.Statement.{statement}

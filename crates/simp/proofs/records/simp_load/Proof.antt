@@ -11,8 +11,8 @@ returns c = loads-wrong _ _ (ne-eqb _ 38 (c .if1 .taken))
 load-requires : tie.Need-load-requires
 load-requires c κs = search needs
 
-lay-numbers-requires : tie.Need-lay-numbers-requires
-lay-numbers-requires c κs = search needs
+put-numbers-requires : tie.Need-put-numbers-requires
+put-numbers-requires c κs = search needs
 
 outcome-requires : tie.Need-outcome-requires
 outcome-requires c κs = search needs
@@ -21,7 +21,7 @@ same-length : tie.Need-same-length
 same-length c = search needs
 
 returns-2 : tie.Need-returns-2
-returns-2 c = loads (eq-eqb _ 38 (c .before .before .before .before .before .before .before .if1 .left)) (c .before .before .before .before .before .before .load .ensures) (c .before .before .before .lay-numbers .ensures) (c .outcome .ensures)
+returns-2 c = loads (eq-eqb _ 38 (c .before .before .before .before .before .before .before .if1 .left)) (c .before .before .before .before .before .before .load .ensures) (c .before .before .before .put-numbers .ensures) (c .outcome .ensures)
 
 pub simp-load-spec : {M : Type 1} → statement M
 simp-load-spec =
@@ -29,7 +29,7 @@ simp-load-spec =
     (tie.spec
     returns
     load-requires
-    lay-numbers-requires
+    put-numbers-requires
     outcome-requires
     same-length
     returns-2)

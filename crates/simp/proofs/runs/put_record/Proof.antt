@@ -4,17 +4,17 @@ use borrow.Author.Needs.{needs}
 use Rattle.simp.proofs.runs.put_record.Statement.{statement}
 use Rattle.simp.proofs.runs.put_record.Tie as tie
 
-lay-numbers-requires : tie.Need-lay-numbers-requires
-lay-numbers-requires c κs = search needs
+put-numbers-requires : tie.Need-put-numbers-requires
+put-numbers-requires c κs = search needs
 
 same-length : tie.Need-same-length
 same-length c = search needs
 
 returns : tie.Need-returns
-returns c = rw (eq-eqb (c .before .before .before .before .before .before .args .number) 0 (c .before .before .before .before .if1 .taken)) (c .before .before .lay-numbers .ensures)
+returns c = rw (eq-eqb (c .before .before .before .before .before .before .args .number) 0 (c .before .before .before .before .if1 .taken)) (c .before .before .put-numbers .ensures)
 
 returns-2 : tie.Need-returns-2
 returns-2 c = rw (ne-eqb (c .before .before .args .number) 0 (c .if1 .left))
 
 pub put-record-spec : {M : Type 1} → statement M
-put-record-spec = tie.close (tie.spec lay-numbers-requires same-length returns returns-2)
+put-record-spec = tie.close (tie.spec put-numbers-requires same-length returns returns-2)

@@ -14,8 +14,8 @@ returns c =
     let a = c .before .before .before .before .before .before .before .before .before .args in
     runs-wrong-report (a .numbers .now) (a .image .now) (a .memory .now) (a .disk .now) (a .frame .now) (a .irq2 .now) (a .budget) (a .log .now) (a .report .now) (ne-eqb _ 3 (c .if1 .taken))
 
-lay-report-requires : tie.Need-lay-report-requires
-lay-report-requires c κs = search needs
+put-report-requires : tie.Need-put-report-requires
+put-report-requires c κs = search needs
 
 same-length : tie.Need-same-length
 same-length c = search needs
@@ -23,7 +23,7 @@ same-length c = search needs
 returns-2 : tie.Need-returns-2
 returns-2 c =
     let a = c .before .before .before .before .before .before .before .before .before .before .before .before .before .before .args in
-    runs-wrong-record (a .numbers .now) (a .image .now) (a .memory .now) (a .disk .now) (a .frame .now) (a .irq2 .now) (a .budget) (a .log .now) (a .report .now) (eq-eqb _ 3 (c .before .before .before .before .before .if1 .left)) (ne-eqb _ 38 (c .before .before .before .before .if2 .taken)) _ (c .before .before .lay-report .ensures)
+    runs-wrong-record (a .numbers .now) (a .image .now) (a .memory .now) (a .disk .now) (a .frame .now) (a .irq2 .now) (a .budget) (a .log .now) (a .report .now) (eq-eqb _ 3 (c .before .before .before .before .before .if1 .left)) (ne-eqb _ 38 (c .before .before .before .before .if2 .taken)) _ (c .before .before .put-report .ensures)
 
 record-of-requires : tie.Need-record-of-requires
 record-of-requires c κs = search needs
@@ -37,8 +37,8 @@ outcome-requires c κs = search needs
 reason-requires : tie.Need-reason-requires
 reason-requires c κs = search needs
 
-lay-report-requires-2 : tie.Need-lay-report-requires-2
-lay-report-requires-2 c κs = search needs
+put-report-requires-2 : tie.Need-put-report-requires-2
+put-report-requires-2 c κs = search needs
 
 put-record-requires : tie.Need-put-record-requires
 put-record-requires c κs = search needs
@@ -86,21 +86,21 @@ returns-3 c =
     _
     (c .before .before .put-record .ensures)
     _
-    (c .before .before .before .before .before .before .lay-report2 .ensures ∙ ap (λ (x : ℕ). r .result .cycles ∷ r .result .bytes ∷ x ∷ []) (c .before .before .before .before .before .before .before .before .reason .ensures))
+    (c .before .before .before .before .before .before .put-report2 .ensures ∙ ap (λ (x : ℕ). r .result .cycles ∷ r .result .bytes ∷ x ∷ []) (c .before .before .before .before .before .before .before .before .reason .ensures))
 
 pub simp-run-spec : {M : Type 1} → statement M
 simp-run-spec =
     tie.close
     (tie.spec
     returns
-    lay-report-requires
+    put-report-requires
     same-length
     returns-2
     record-of-requires
     run-requires
     outcome-requires
     reason-requires
-    lay-report-requires-2
+    put-report-requires-2
     put-record-requires
     same-length-2
     same-length-3

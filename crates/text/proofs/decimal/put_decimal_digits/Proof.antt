@@ -1,22 +1,17 @@
 -- `text::decimal::put_decimal_digits` meets its contract.
-use Prim.Native.Nat.{_≤_}
-use mathlib.Core.Path.{_≡_, _∙_, refl}
 use native.Mathlib.Omega.{arith}
-use lib.ListN.{length, length-set}
-use Rattle.text.proofs.WriteLaws.{write-none, write-one}
-use Rattle.text.specs.Numerals.{digits}
-use Rattle.text.specs.Place.{put}
+use Rattle.text.proofs.WriteLaws.{Writing, none-written, one-written, all-written}
 use Rattle.text.proofs.decimal.put_decimal_digits.Statement.{statement}
 use Rattle.text.proofs.decimal.put_decimal_digits.Tie as tie
 
 abbrev Inv-loop : tie.InvT-loop
-Inv-loop out₀ at k v left₀ rest₀ out left rest = (put out at (digits 10 left rest) ≡ put out₀ at (digits 10 k v)) × ((length out ≡ length out₀) × (left ≤ k))
+Inv-loop out₀ at k v left₀ rest₀ out left rest = Writing 10 out₀ at k v out left rest
 
 abbrev μ-loop : tie.MeasureT-loop
 μ-loop out₀ at k v left₀ rest₀ out left rest = left
 
 loop-holds : tie.Need-loop-holds Inv-loop μ-loop
-loop-holds c = (refl, (refl, omega arith))
+loop-holds c = none-written
 
 sub-left : tie.Need-sub-left Inv-loop μ-loop
 sub-left c = omega arith
@@ -37,20 +32,13 @@ loop-less : tie.Need-loop-less Inv-loop μ-loop
 loop-less c = omega arith
 
 loop-again : tie.Need-loop-again Inv-loop μ-loop
-loop-again c =
-    let l = c .before .before .loop in
-    let a = c .before .before .before .before .args in (
-      write-one 10 (omega arith) (l .out) _ (a .at) (l .left) (l .rest) (omega arith) (rw (c .digit .ensures)) ∙ l .inv .0,
-      (simp length-set (l .inv .1 .0), omega arith),
-    )
+loop-again c = one-written (c .before .before .loop .inv) (omega arith) _ (c .digit .ensures)
 
 same-length : tie.Need-same-length Inv-loop μ-loop
-same-length c = c .before .loop .inv .1 .0
+same-length c = c .before .loop .inv .room
 
 returns : tie.Need-returns Inv-loop μ-loop
-returns c =
-    let l = c .before .loop in
-    write-none 10 (l .out) (c .before .before .before .args .at) (l .left) (l .rest) (omega arith) ∙ l .inv .0
+returns c = all-written (c .before .loop .inv) (omega arith)
 
 pub put-decimal-digits-spec : {M : Type 1} → statement M
 put-decimal-digits-spec =

@@ -1,22 +1,19 @@
 -- `text::hex_words::fill_pairs` meets its contract.
-use Prim.Native.Nat.{ℕ, _-_, _≤_, _<_}
-use mathlib.Core.Path.{_≡_}
-use native.Mathlib.Nat.{not-suc-le-zero}
+use Prim.Native.Nat.{_-_}
 use native.Mathlib.Omega.{arith}
-use lib.ListN.{length, getD, length-set}
-use Rattle.text.proofs.TableLaws.{filled-more}
+use Rattle.text.proofs.TableLaws.{Filled, none-filled, one-filled, all-filled}
 use Rattle.text.proofs.HexWordLaws.{pair}
 use Rattle.text.proofs.hex_words.fill_pairs.Statement.{statement}
 use Rattle.text.proofs.hex_words.fill_pairs.Tie as tie
 
 abbrev Inv-loop : tie.InvT-loop
-Inv-loop words₀ one n₀ words n = (length words ≡ 1024) × ((n ≤ 256) × ((k : ℕ) → k < n → getD words k 0 ≡ pair k))
+Inv-loop words₀ one n₀ words n = Filled pair 1024 256 words n
 
 abbrev μ-loop : tie.MeasureT-loop
 μ-loop words₀ one n₀ words n = 256 - n
 
 loop-holds : tie.Need-loop-holds Inv-loop μ-loop
-loop-holds c = (c .pre .0, (omega arith, λ k h. absurd (not-suc-le-zero h)))
+loop-holds c = none-filled (c .pre .0)
 
 wide-pair-requires : tie.Need-wide-pair-requires Inv-loop μ-loop
 wide-pair-requires c κs = (omega arith, c .before .before .pre .1)
@@ -34,12 +31,10 @@ loop-less : tie.Need-loop-less Inv-loop μ-loop
 loop-less c = omega arith
 
 loop-again : tie.Need-loop-again Inv-loop μ-loop
-loop-again c =
-    let l = c .before .before .loop in
-    (simp length-set (l .inv .0), (omega arith, filled-more pair (l .words) (l .n) (c .wide-pair .result) (omega arith) (c .wide-pair .ensures) (l .inv .1 .1)))
+loop-again c = one-filled (c .before .before .loop .inv) _ (omega arith) (omega arith) (c .wide-pair .ensures)
 
 returns : tie.Need-returns Inv-loop μ-loop
-returns c = (c .before .loop .inv .0, λ k h. c .before .loop .inv .1 .1 k (omega arith))
+returns c = (c .before .loop .inv .room, all-filled (c .before .loop .inv) (omega arith))
 
 pub fill-pairs-spec : {M : Type 1} → statement M
 fill-pairs-spec =

@@ -1,22 +1,20 @@
 -- `text::hex_words::wide_digits` meets its contract.
-use Prim.Native.Nat.{ℕ, _-_, _%_, _≤_, _<_}
-use mathlib.Core.Path.{_≡_, refl, _∙_, ap}
-use native.Mathlib.Nat.{mod-eq-of-lt, not-suc-le-zero}
+use Prim.Native.Nat.{_-_}
+use mathlib.Core.Path.{refl, _∙_}
 use native.Mathlib.Omega.{arith}
-use lib.ListN.{length, getD, length-set}
 use Rattle.text.specs.Numerals.{digit}
-use Rattle.text.proofs.TableLaws.{filled-more}
+use Rattle.text.proofs.TableLaws.{Filled, none-filled, low-filled, all-filled}
 use Rattle.text.proofs.hex_words.wide_digits.Statement.{statement}
 use Rattle.text.proofs.hex_words.wide_digits.Tie as tie
 
 abbrev Inv-loop : tie.InvT-loop
-Inv-loop one₀ n₀ one n = (length one ≡ 16) × ((n ≤ 16) × ((k : ℕ) → k < n → getD one k 0 ≡ digit k))
+Inv-loop one₀ n₀ one n = Filled digit 16 16 one n
 
 abbrev μ-loop : tie.MeasureT-loop
 μ-loop one₀ n₀ one n = 16 - n
 
 loop-holds : tie.Need-loop-holds Inv-loop μ-loop
-loop-holds c = (refl, (omega arith, λ k h. absurd (not-suc-le-zero h)))
+loop-holds c = none-filled refl
 
 cast-digit : tie.Need-cast-digit Inv-loop μ-loop
 cast-digit c = omega arith
@@ -40,13 +38,10 @@ loop-less : tie.Need-loop-less Inv-loop μ-loop
 loop-less c = omega arith
 
 loop-again : tie.Need-loop-again Inv-loop μ-loop
-loop-again c =
-    let l = c .before .before .before .loop in
-    let same : l .n % 16 ≡ l .n = mod-eq-of-lt {m = 16} (omega arith) in
-    (simp length-set (l .inv .0), (omega arith, filled-more digit (l .one) (l .n) (c .wide .result) (omega arith) (c .wide .ensures ∙ c .before .digit .ensures ∙ ap digit same) (l .inv .1 .1)))
+loop-again c = low-filled (c .before .before .before .loop .inv) _ (omega arith) (omega arith) (c .wide .ensures ∙ c .before .digit .ensures)
 
 returns : tie.Need-returns Inv-loop μ-loop
-returns c = λ k h. c .before .loop .inv .1 .1 k (omega arith)
+returns c = all-filled (c .before .loop .inv) (omega arith)
 
 pub wide-digits-spec : {M : Type 1} → statement M
 wide-digits-spec =

@@ -1,5 +1,5 @@
 -- `trace::log_lines::put_instruction` meets its contract.
-use Rattle.trace.proofs.LineLaws.{instruction-laid}
+use Rattle.trace.proofs.LineLaws.{instruction-put}
 use borrow.Author.Needs.{needs}
 use Rattle.trace.proofs.log_lines.put_instruction.Statement.{statement}
 use Rattle.trace.proofs.log_lines.put_instruction.Tie as tie
@@ -33,7 +33,7 @@ returns c =
     let digits = c .before .before .before .before .before .before .before .before .before .before .before .front-digits .ensures in
     let next = c .before .before .before .before .before .before .put-hex-byte .ensures in
     let last = c .before .before .put-eight2 .ensures in
-    instruction-laid (a .pc) (a .word) (a .at) (a .out .now) _ _ _ (rw digits at first) next (rw (p .1 .1) at last)
+    instruction-put (a .pc) (a .word) (a .at) (a .out .now) _ _ _ (rw digits at first) next (rw (p .1 .1) at last)
 
 pub put-instruction-spec : {M : Type 1} → statement M
 put-instruction-spec =

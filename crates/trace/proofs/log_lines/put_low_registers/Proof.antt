@@ -5,7 +5,7 @@ use lib.ListN.{length-set}
 use borrow.Author.Needs.{needs}
 use Rattle.text.specs.Numerals.{lowBytes}
 use Rattle.text.proofs.HexWordLaws.{length-low}
-use Rattle.trace.proofs.LineLaws.{low-registers-laid}
+use Rattle.trace.proofs.LineLaws.{low-registers-put}
 use Rattle.trace.proofs.log_lines.put_low_registers.Statement.{statement}
 use Rattle.trace.proofs.log_lines.put_low_registers.Tie as tie
 
@@ -39,7 +39,7 @@ same-length c = (simp length-set at (c .before .before .put-eight2 .kept .0)) �
 returns : tie.Need-returns
 returns c =
     let a = c .before .before .before .before .before .before .before .before .before .before .before .before .before .before .args in
-    low-registers-laid (lowBytes 8 (a .first)) (lowBytes 8 (a .second)) (a .at) (a .out .now) _ _ _ (length-low 8 (a .first))
+    low-registers-put (lowBytes 8 (a .first)) (lowBytes 8 (a .second)) (a .at) (a .out .now) _ _ _ (length-low 8 (a .first))
     (c .before .before .before .before .before .before .before .before .before .before .put-bytes .ensures .0) (c .before .before .before .before .before .before .put-eight .ensures) (c .before .before .put-eight2 .ensures)
 
 pub put-low-registers-spec : {M : Type 1} → statement M

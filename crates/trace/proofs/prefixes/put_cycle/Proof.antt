@@ -2,7 +2,7 @@
 use mathlib.Core.Path.{refl}
 use native.Mathlib.Omega.{arith}
 use Rattle.text.proofs.DecimalLaws.{count-pos}
-use Rattle.trace.proofs.PrefixLaws.{cycle-laid}
+use Rattle.trace.proofs.PrefixLaws.{cycle-put}
 use borrow.Author.Needs.{needs}
 use Rattle.trace.proofs.prefixes.put_cycle.Statement.{statement}
 use Rattle.trace.proofs.prefixes.put_cycle.Tie as tie
@@ -64,7 +64,7 @@ returns c =
     let last = c .before .before .put-two .ensures in
     let two = c .before .before .before .before .before .before .before .before .before .before .before .before .before .before .last-two .ensures in
     let s = p .1 .1 in
-    (omega (arith, s .counted), λ rest h. cycle-laid (a .letter) (a .c) (a .at) _ _ _ _ _ (omega arith) s (a .out .now) _ _ _ rest first second (rw two at last) h)
+    (omega (arith, s .counted), λ rest h. cycle-put (a .letter) (a .c) (a .at) _ _ _ _ _ (omega arith) s (a .out .now) _ _ _ rest first second (rw two at last) h)
 
 pub put-cycle-spec : {M : Type 1} → statement M
 put-cycle-spec =

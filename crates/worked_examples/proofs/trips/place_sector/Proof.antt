@@ -2,7 +2,7 @@
 use Prim.Native.Nat.{_*_}
 use native.Mathlib.Omega.{arith}
 use borrow.Author.Needs.{needs}
-use Rattle.worked_examples.proofs.ReturnLaws.{put-part}
+use Rattle.text.proofs.PutLaws.{put-part}
 use Rattle.worked_examples.proofs.trips.place_sector.Statement.{statement}
 use Rattle.worked_examples.proofs.trips.place_sector.Tie as tie
 

@@ -1,0 +1,3 @@
+-- Demands 2 and 3 of the C face.
+pub mod FaceDemand2
+pub mod FaceDemand3

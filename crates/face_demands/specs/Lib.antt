@@ -1,0 +1,3 @@
+-- Calls of the C face, and what demand 2 says of them.
+pub mod FaceCalls
+pub mod FaceDemand2

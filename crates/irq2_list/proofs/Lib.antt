@@ -1,0 +1,2 @@
+-- Laws of that place.
+pub mod PlaceLaws

@@ -1,0 +1,2 @@
+-- The place of an age in the irq2 list.
+pub mod Places

@@ -60,7 +60,7 @@ typedef struct {
 } Token;
 
 typedef struct {
-    int sign;   // 0 no number, 1 decimal or hexadecimal, -1 with a minus
+    int sign;   // 0 no number, 1 without a sign, -1 with a minus
     uint64_t v;
 } Number;
 
@@ -70,6 +70,7 @@ static Number read_number(Token t) {
     int sign = 1;
     if (*p == '-') sign = -1, p++, n--;
     else if (n > 2 && p[0] == '0' && p[1] == 'x') base = 16, most = 8, p += 2, n -= 2;
+    else if (n > 2 && p[0] == '0' && p[1] == 'b') base = 2, most = 32, p += 2, n -= 2;
     if (n < 1 || n > most) return (Number){0, 0};
     uint64_t v = 0;
     for (unsigned i = 0; i < n; i++) {
@@ -376,9 +377,10 @@ static uint32_t draw(uint32_t n) {
 
 // A random text of some lines: each number is out of range, each label repeated or unknown, each name wrong now and then; then some bytes are damaged now and then.
 static const char *a_number(int rare) {
-    static const char *const good[] = {"0", "-1", "4095", "-2048", "0xFFF", "0x7ff", "-0", "00012", "2047"};
-    static const char *const wide[] = {"2147483648", "-2147483648", "4294967295", "4096", "-2049", "0x1000", "4294967296", "-2147483649", "0X1", "12345678901", "0x123456789", "+1"};
-    return draw(60) ? good[draw(9)] : wide[draw(rare ? 12 : 3)];
+    static const char *const good[] = {"0", "-1", "4095", "-2048", "0xFFF", "0x7ff", "-0", "00012", "2047", "0b1010", "0b111111111111", "0b00000000000000000000000000000001"};
+    static const char *const wide[] = {"2147483648", "-2147483648", "4294967295", "0b11111111111111111111111111111111", "4096", "-2049", "0x1000", "0b1000000000000", "4294967296", "-2147483649",
+                                       "0X1", "12345678901", "0x123456789", "+1", "0b", "0b2", "0B1", "-0b1", "0b000000000000000000000000000000001"};
+    return draw(60) ? good[draw(12)] : wide[draw(rare ? 19 : 4)];
 }
 
 static const char *an_immediate(char *a, uint32_t labels) {
@@ -388,8 +390,8 @@ static const char *an_immediate(char *a, uint32_t labels) {
 }
 
 static void random_text(void) {
-    static const char damage[] = " \t\r,:#$-0x1aL.\n";
-    char line[200], a[16], b[16];
+    static const char damage[] = " \t\r,:#$-0xb12aL.\n";
+    char line[200], a[40], b[40];
     uint32_t labels = draw(8), next = 0, n = draw(24);
     size = 0;
     for (uint32_t i = 0; i < n; i++) {

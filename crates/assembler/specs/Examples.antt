@@ -1,4 +1,4 @@
--- Texts assembled, computed: what good ones give, and each refusal; the decided open points A1 to A22.
+-- Texts assembled, computed: what good ones give, and each refusal; the decided open points A1 to A22 and B1 to B5.
 use Prim.Native.Nat.{ℕ, zero, suc}
 use Prim.Native.String.{String}
 use mathlib.Core.Path.{_≡_, refl}
@@ -114,6 +114,15 @@ data-words : take 6 (words ".word -0 5\n.word 1 4294967295\n.word 2 -2147483648\
     ≡ 5 ∷ 0xFFFFFFFF ∷ 0x80000000 ∷ 0xABCDEF09 ∷ 0xFFFFFFFF ∷ 0 ∷ []
 unfolding words
 data-words = refl
+
+-- B4: binary numbers in both immediates, as an address and as data. B3: "unsigned", so a leading 1 makes none negative.
+binary-immediates : word (bytes "add $zero, $zero, $zero, $zero, 0b1010, 0b111111111111") ≡ 0x00000000AFFF
+unfolding word
+binary-immediates = refl
+
+binary-words : take 5 (words ".word 0b0 0b11111111111111111111111111111111\n.word 0b11 0b101\n") ≡ 0xFFFFFFFF ∷ 0 ∷ 0 ∷ 5 ∷ 0 ∷ []
+unfolding words
+binary-words = refl
 
 -- "the later .word of one address wins"
 later-wins : take 3 (words ".word 1 5\n.word 0x1 -1\n") ≡ 0 ∷ 0xFFFFFFFF ∷ 0 ∷ []
@@ -255,6 +264,22 @@ word-ranges : map outcome
     ≡ replicate 4 (accepted 0) ++ replicate 5 (refused 5 1)
 unfolding outcome
 word-ranges = refl
+
+-- B4: "with the same ranges", at each of the four places. B3: 32 ones are no -1 as an immediate.
+binary-ranges : map outcome
+    ("add $zero, $zero, $zero, $zero, 0b111111111111, 0b0" ∷ ".word 0b111111111111 0b11111111111111111111111111111111"
+    ∷ "add $zero, $zero, $zero, $zero, 0b1000000000000, 0" ∷ "add $zero, $zero, $zero, $zero, 0, 0b1000000000000"
+    ∷ "add $zero, $zero, $zero, $zero, 0b11111111111111111111111111111111, 0" ∷ ".word 0b1000000000000 0" ∷ [])
+    ≡ replicate 2 (accepted 0) ++ replicate 4 (refused 5 1)
+unfolding outcome
+binary-ranges = refl
+
+-- B1, B2, B3, B5: what is no binary number is wrong form, never out of range; `b1010` stays a label.
+binary-forms : map (λ (s : String). outcomeOf (bytes "b1010: add $zero, $zero, $zero, $zero, " ++ bytes s ++ bytes ", 0"))
+    ("0b1010" ∷ "b1010" ∷ "0b2" ∷ "0b" ∷ "0B1" ∷ "-0b1" ∷ "0b 1" ∷ "0b000000000000000000000000000000000" ∷ [])
+    ≡ replicate 2 (accepted 0) ++ replicate 6 (refused 3 1)
+unfolding outcomeOf
+binary-forms = refl
 
 -- 6: A15, "Names are case-sensitive".
 defined-before : map outcome ("L:\nl:\n" ∷ "L:\nl:\nL: halt $zero, $zero, $zero, $zero, 0, 0\n" ∷ []) ≡ accepted 0 ∷ refused 6 3 ∷ []

@@ -3,30 +3,30 @@ use Prim.Native.Nat.{ℕ, _-_, _%_, _^_}
 use mathlib.Core.Bool.{Bool, true}
 use lib.Dec.{leb}
 use Rattle.source.specs.declared.Number.{Number}
-use Rattle.source.specs.declared.Number.the-variants.{Decimal, Minus, Hexadecimal, NoNumber}
+use Rattle.source.specs.declared.Number.the-variants.{Decimal, Minus, Unsigned, NoNumber}
 
--- A number from -below to most; of a token that is no number this isn't asked.
-abbrev pub isWithin : (below most : ℕ) → Number → Bool
-isWithin below most (Decimal v) = leb v most
-isWithin below most (Minus v) = leb v below
-isWithin below most (Hexadecimal v) = leb v most
-isWithin below most NoNumber = true
+-- A number from -below up: a decimal to `decimals`, one of another form to `others`. Of a token that is no number this isn't asked.
+abbrev pub isWithin : (below decimals others : ℕ) → Number → Bool
+isWithin below decimals others (Decimal v) = leb v decimals
+isWithin below decimals others (Minus v) = leb v below
+isWithin below decimals others (Unsigned v) = leb v others
+isWithin below decimals others NoNumber = true
 
 -- "Immediates run from -2048 to 4095"
 abbrev pub isImmediate : Number → Bool
-isImmediate n = isWithin 2048 4095 n
+isImmediate n = isWithin 2048 4095 4095 n
 
 -- ".word addresses 0 to 4095"
 abbrev pub isAddress : Number → Bool
-isAddress n = isWithin 0 4095 n
+isAddress n = isWithin 0 4095 4095 n
 
 -- "data -2^31 to 2^32-1"
 abbrev pub isData : Number → Bool
-isData n = isWithin 0x80000000 0xFFFFFFFF n
+isData n = isWithin 0x80000000 0xFFFFFFFF 0xFFFFFFFF n
 
 -- "stored modulo 4096": a number in so many bits.
 abbrev pub modulo : (bits : ℕ) → Number → ℕ
 modulo bits (Decimal v) = v % 2 ^ bits
 modulo bits (Minus v) = (2 ^ bits - v % 2 ^ bits) % 2 ^ bits
-modulo bits (Hexadecimal v) = v % 2 ^ bits
+modulo bits (Unsigned v) = v % 2 ^ bits
 modulo bits NoNumber = 0

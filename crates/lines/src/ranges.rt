@@ -4,14 +4,14 @@ ghost use mathlib.Core.Path.{_≡_};
 ghost use Prim.Native.Nat.{ℕ, _^_, _<_};
 ghost use Rattle.lines.specs.Ranges.{isWithin, modulo as moduloOf};
 
-// Whether a number runs from -below to most; what is no number does.
-pub fn is_within(n: Number, below: u64, most: u64) -> bool
-    ensures { λ r. ⌜ r ≡ isWithin below most n ⌝ }
+// Whether a number runs from -below up, a decimal to `decimals` and one of another form to `others`; what is no number does.
+pub fn is_within(n: Number, below: u64, decimals: u64, others: u64) -> bool
+    ensures { λ r. ⌜ r ≡ isWithin below decimals others n ⌝ }
 {
     match n {
-        Number::Decimal(v) => v <= most,
+        Number::Decimal(v) => v <= decimals,
         Number::Minus(v) => v <= below,
-        Number::Hexadecimal(v) => v <= most,
+        Number::Unsigned(v) => v <= others,
         Number::NoNumber => true,
     }
 }
@@ -24,7 +24,7 @@ pub fn modulo(n: Number, power: u64) -> u64
     match n {
         Number::Decimal(v) => v % power,
         Number::Minus(v) => (power - v % power) % power,
-        Number::Hexadecimal(v) => v % power,
+        Number::Unsigned(v) => v % power,
         Number::NoNumber => 0,
     }
 }

@@ -15,10 +15,11 @@ use Rattle.text.proofs.DecimalLaws.{count-pos, count-le, length-decimal, all-de
 use Rattle.source.specs.declared.Number.the-variants.{Decimal, Minus}
 use Rattle.source.specs.Bytes.{areAll}
 use Rattle.source.specs.Numbers.{number, isNumber}
+use Rattle.source.proofs.NumberLaws.{no-prefix}
 use Rattle.text.specs.Same.{same}
 use Rattle.lines.specs.Ranges.{isImmediate, modulo}
 use Rattle.lister.specs.Listing.{signedDecimal}
-use Rattle.roundtrip.proofs.WrittenTokens.{isPlain, and-no, Written}
+use Rattle.roundtrip.proofs.WrittenTokens.{isPlain, Written}
 
 -- ---- decimal digits among the bytes
 
@@ -59,7 +60,7 @@ plain-digits (c ∷ s) e =
 
 -- ---- digits read as a number
 
--- Digits begin neither with `-` ..
+-- Digits do not begin with `-`.
 no-minus : (s : List ℕ) → allDigits 10 s ≡ true → same (take 1 s) (bytes "-") ≡ false
 unfolding allDigits same
 no-minus [] e = refl
@@ -67,19 +68,10 @@ no-minus (c ∷ s) e =
     let here = and-left (ltb (digitValue c) 10) (allDigits 10 s) e in
     rw (not-true (eqb c (code "-")) (digit-passes (λ n. not (eqb n (code "-"))) refl c here))
 
--- .. nor with `0x`.
-no-hexadecimal : (s : List ℕ) → allDigits 10 s ≡ true → same (take 2 s) (bytes "0x") ≡ false
-unfolding allDigits same
-no-hexadecimal [] e = refl
-no-hexadecimal (c ∷ []) e = and-no (eqb c (code "0")) false refl
-no-hexadecimal (c ∷ d ∷ s) e =
-    let second = and-left (ltb (digitValue d) 10) (allDigits 10 s) (and-right (ltb (digitValue c) 10) (allDigits 10 (d ∷ s)) e) in
-    rw (not-true (eqb d (code "x")) (digit-passes (λ n. not (eqb n (code "x"))) refl d second)) (and-no (eqb c (code "0")) false refl)
-
 module _ (s : List ℕ) (some : 1 ≤ length s) (few : length s ≤ 10) (e : allDigits 10 s ≡ true) where
   number-digits : number s ≡ Decimal (value 10 s)
   unfolding number
-  number-digits = rw (no-minus s e, no-hexadecimal s e, le-leb 1 (length s) some, le-leb (length s) 10 few, e)
+  number-digits = rw (no-minus s e, no-prefix (code "x") refl s e, no-prefix (code "b") refl s e, le-leb 1 (length s) some, le-leb (length s) 10 few, e)
 
   number-minus : number (bytes "-" ++ s) ≡ Minus (value 10 s)
   unfolding number same

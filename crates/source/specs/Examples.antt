@@ -1,4 +1,4 @@
--- Bytes, tokens, numbers and names, computed: the decided open points A4 to A11 as far as they need no dialect.
+-- Bytes, tokens, numbers and names, computed: the decided open points A4 to A11 and B1 to B5 as far as they need no dialect.
 use Prim.Native.Nat.{ℕ}
 use Prim.Native.String.{String}
 use mathlib.Core.Path.{_≡_, refl}
@@ -7,7 +7,7 @@ use mathlib.Core.List.{List, [], _∷_, _++_, map}
 use lib.ListN.{replicate}
 use Rattle.text.specs.Bytes.{bytes}
 use Rattle.text.specs.Numerals.{allDigits, value}
-use Rattle.source.specs.declared.Number.the-variants.{Decimal, Minus, Hexadecimal, NoNumber}
+use Rattle.source.specs.declared.Number.the-variants.{Decimal, Minus, Unsigned, NoNumber}
 use Rattle.source.specs.Bytes.{isAllowed, areAll, areRightBytes}
 use Rattle.source.specs.Tokens.{token, tokensFrom, tokens, texts}
 use Rattle.source.specs.Numbers.{number}
@@ -55,7 +55,7 @@ colons = refl
 -- A7, A8: digits of either case after `0x`; `-0` is a number; `-` is not among the ten digits; leading zeros up to ten digits (eight), and no octal.
 numbers : map (λ (s : String). number (bytes s))
     ("4095" ∷ "-2048" ∷ "-0" ∷ "-1234567890" ∷ "0xFf" ∷ "0xABCDEF09" ∷ "0000000001" ∷ "0x00000001" ∷ "010" ∷ "9999999999" ∷ [])
-    ≡ Decimal 4095 ∷ Minus 2048 ∷ Minus 0 ∷ Minus 1234567890 ∷ Hexadecimal 255 ∷ Hexadecimal 2882400009 ∷ Decimal 1 ∷ Hexadecimal 1 ∷ Decimal 10
+    ≡ Decimal 4095 ∷ Minus 2048 ∷ Minus 0 ∷ Minus 1234567890 ∷ Unsigned 255 ∷ Unsigned 2882400009 ∷ Decimal 1 ∷ Unsigned 1 ∷ Decimal 10
     ∷ Decimal 9999999999 ∷ []
 unfolding number same allDigits value
 numbers = refl
@@ -67,6 +67,37 @@ no-numbers : map (λ (s : String). number (bytes s))
     ≡ replicate 15 NoNumber
 unfolding number same allDigits value
 no-numbers = refl
+
+-- B1: 1 to 32 binary digits, leading zeros among them; ..
+binary : map number (bytes "0b1010" ∷ bytes "0b0" ∷ (bytes "0b" ++ replicate 32 49) ∷ (bytes "0b" ++ replicate 31 48 ++ bytes "1") ∷ [])
+    ≡ Unsigned 10 ∷ Unsigned 0 ∷ Unsigned 0xFFFFFFFF ∷ Unsigned 1 ∷ []
+unfolding number same allDigits value
+binary = refl
+
+-- .. no digit, a digit 2, another byte among the digits, 33 digits, whatever their value: no number.
+binary-digits : map number
+    (bytes "0b" ∷ bytes "0b2" ∷ bytes "0b12" ∷ bytes "0b1_0" ∷ bytes "0bA" ∷ (bytes "0b" ++ replicate 33 49) ∷ (bytes "0b" ++ replicate 33 48) ∷ [])
+    ≡ replicate 7 NoNumber
+unfolding number same allDigits value
+binary-digits = refl
+
+-- B2: a small b only. B3: "unsigned", so no sign before it.
+binary-prefix : map (λ (s : String). number (bytes s)) ("0B1" ∷ "-0b1" ∷ "-0b0" ∷ "+0b1" ∷ "b1" ∷ "00b1" ∷ []) ≡ replicate 6 NoNumber
+unfolding number same allDigits value
+binary-prefix = refl
+
+-- B5: one token, `0b 1` is two; `b1010` has the form of a label and 0b1010 has not; 0x0b1 is hexadecimal.
+binary-token : texts (tokens (bytes "0b1 0b 1")) ≡ bytes "0b1" ∷ bytes "0b" ∷ bytes "1" ∷ []
+unfolding tokensFrom
+binary-token = refl
+
+binary-name : map (λ (s : String). isName (bytes s)) ("b1010" ∷ "0b1010" ∷ []) ≡ true ∷ false ∷ []
+unfolding isName areAll
+binary-name = refl
+
+binary-in-hexadecimal : number (bytes "0x0b1") ≡ Unsigned 0xB1
+unfolding number same allDigits value
+binary-in-hexadecimal = refl
 
 -- ---- names
 

@@ -13,8 +13,8 @@ pub enum Number {
     Decimal(u64),
     // `-` and decimal digits.
     Minus(u64),
-    // 0x and hexadecimal digits.
-    Hexadecimal(u64),
+    // 0x and hexadecimal digits, or 0b and binary ones.
+    Unsigned(u64),
     // The token is no number.
     NoNumber,
 }

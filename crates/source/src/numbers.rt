@@ -5,14 +5,17 @@ use text::digits::read_digits;
 use text::same::begins_with;
 ghost use mathlib.Core.Path.{_≡_};
 ghost use Prim.Native.Nat.{_^_, _≤_, _<_};
+ghost use lib.ListN.{length};
 ghost use Rattle.text.specs.Numerals.{DigitValues};
-ghost use Rattle.source.specs.declared.Number.the-variants.{Decimal, Minus, Hexadecimal};
-ghost use Rattle.source.specs.Numbers.{digitsUpTo, written, number, isNumber};
+ghost use Rattle.source.specs.declared.Number.the-variants.{Decimal, Minus, Unsigned};
+ghost use Rattle.source.specs.Numbers.{digitsUpTo, written, unsigned, number, isNumber};
 
 // The most digits of a number.
 const DECIMAL_DIGITS: usize = 10;
 
 const HEXADECIMAL_DIGITS: usize = 8;
+
+const BINARY_DIGITS: usize = 32;
 
 // The number that a token is, if it is one.
 pub fn read_number(t: &[u8], values: &[u8; 256]) -> Number
@@ -23,7 +26,10 @@ pub fn read_number(t: &[u8], values: &[u8; 256]) -> Number
         return as_minus(digits_up_to(&t[1..], 10, DECIMAL_DIGITS, values));
     }
     if begins_with(t, b"0x") {
-        return as_hexadecimal(digits_up_to(&t[2..], 16, HEXADECIMAL_DIGITS, values));
+        return read_unsigned(t, 16, HEXADECIMAL_DIGITS, values);
+    }
+    if begins_with(t, b"0b") {
+        return read_unsigned(t, 2, BINARY_DIGITS, values);
     }
     as_decimal(digits_up_to(t, 10, DECIMAL_DIGITS, values))
 }
@@ -35,9 +41,17 @@ pub fn is_some(n: Number) -> bool
     match n {
         Number::Decimal(_) => true,
         Number::Minus(_) => true,
-        Number::Hexadecimal(_) => true,
+        Number::Unsigned(_) => true,
         Number::NoNumber => false,
     }
+}
+
+// Reads digits of a base, 1 to `most` of them, after a prefix of two bytes.
+fn read_unsigned(t: &[u8], base: u64, most: usize, values: &[u8; 256]) -> Number
+    requires { ⌜ (2 ≤ length (now t)) × ((0 < base) × ((base ≤ 16) × ((base ^ most ≤ 2 ^ 64) × DigitValues (now values)))) ⌝ }
+    ensures { λ r. ⌜ r ≡ unsigned base most (now (t .entry)) ⌝ }
+{
+    as_unsigned(digits_up_to(&t[2..], base, most, values))
 }
 
 // Reads digits of a base, 1 to `most` of them.
@@ -64,12 +78,12 @@ fn as_minus(n: Numeral) -> Number
     }
 }
 
-// .. as one after 0x, ..
-fn as_hexadecimal(n: Numeral) -> Number
-    ensures { λ r. ⌜ r ≡ written Hexadecimal n ⌝ }
+// .. as one after a prefix, ..
+fn as_unsigned(n: Numeral) -> Number
+    ensures { λ r. ⌜ r ≡ written Unsigned n ⌝ }
 {
     match n {
-        Numeral::Value(v) => Number::Hexadecimal(v),
+        Numeral::Value(v) => Number::Unsigned(v),
         Numeral::NoNumeral => Number::NoNumber,
     }
 }

@@ -12,7 +12,7 @@ use Rattle.isa.specs.Word.{wordOf}
 use Rattle.isa.specs.Operations.{operationNames}
 use Rattle.isa.specs.Registers.{registerNames}
 use Rattle.source.specs.declared.Number.{Number}
-use Rattle.source.specs.declared.Number.the-variants.{Decimal, Minus, Hexadecimal, NoNumber}
+use Rattle.source.specs.declared.Number.the-variants.{Decimal, Minus, Unsigned, NoNumber}
 use Rattle.source.specs.Spans.{PartOf}
 use Rattle.source.specs.Numbers.{number, isNumber}
 use Rattle.source.specs.Lookup.{isAmong, placeOf}
@@ -44,7 +44,7 @@ use Rattle.labels.proofs.TextLaws.{value-at}
 none-within : (n : Number) → isNumber n ≡ false → true ≡ isImmediate n
 none-within (Decimal v) e = absurd (false≢true (sym e))
 none-within (Minus v) e = absurd (false≢true (sym e))
-none-within (Hexadecimal v) e = absurd (false≢true (sym e))
+none-within (Unsigned v) e = absurd (false≢true (sym e))
 none-within NoNumber e = refl
 
 -- A token that is no number was looked up in the table of the labels, and r is the answer.

@@ -162,7 +162,7 @@ fn read_immediate(
         return read_label(source, t, table, values, count);
     }
     Immediate {
-        inside: is_within(n, IMMEDIATE_BELOW, IMMEDIATE_LAST),
+        inside: is_within(n, IMMEDIATE_BELOW, IMMEDIATE_LAST, IMMEDIATE_LAST),
         defined: true,
         value: modulo(n, IMMEDIATE_POWER) as u32,
     }
@@ -209,8 +209,8 @@ fn read_word(line: &[u8], f: Form, places: &[usize], digits: &[u8; 256]) -> Stat
     Statement {
         known: true,
         inside: both(
-            is_within(address, 0, ADDRESS_LAST),
-            is_within(value, DATA_BELOW, DATA_LAST),
+            is_within(address, 0, ADDRESS_LAST, ADDRESS_LAST),
+            is_within(value, DATA_BELOW, DATA_LAST, DATA_LAST),
         ),
         defined: true,
         word: 0,

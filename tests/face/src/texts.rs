@@ -4,15 +4,29 @@ use crate::random::Random;
 use reference::names::{OPS, REGISTERS};
 
 const IMMEDIATES: [&str; 12] = ["0", "1", "-1", "7", "2047", "4095", "-2048", "0xFFF", "0x7ff", "-0", "0000000012", "0x00000ABC"];
+const ADDRESSES: [&str; 5] = ["0", "1", "4095", "0xFFF", "-0"];
 const DATA: [&str; 9] = ["0", "-1", "5", "4294967295", "-2147483648", "0xFFFFFFFF", "0x80000000", "2147483647", "0xabcDEF01"];
-const NO_NUMBERS: [&str; 14] = ["4096", "-2049", "0x1000", "4294967296", "-2147483649", "0X1", "12345678901", "0x123456789", "+1", "--1", "-0x1", "0x", "-", "1a"];
+const NO_NUMBERS: [&str; 19] = [
+    "4096", "-2049", "0x1000", "4294967296", "-2147483649", "0X1", "12345678901", "0x123456789", "+1", "--1", "-0x1", "0x", "-", "1a", "0b1000000000000", "0b", "0B1", "-0b1", "0b1_0",
+];
 
-fn number(r: &mut Random, good: &[&'static str]) -> &'static str {
+/// One of these numbers, or a binary one of up to so many digits; now and then no number, or one that is out of range.
+fn number(r: &mut Random, good: &[&'static str], bits: u64) -> String {
     if r.once_in(80) {
-        r.one(&NO_NUMBERS)
+        r.one(&NO_NUMBERS).to_string()
+    } else if r.once_in(8) {
+        binary(r, bits)
     } else {
-        r.one(good)
+        r.one(good).to_string()
     }
+}
+
+/// 0b and up to so many binary digits, now and then up to 34; now and then one of them is a 2.
+fn binary(r: &mut Random, bits: u64) -> String {
+    let (most, digits) = (if r.once_in(40) { 34 } else { bits }, if r.once_in(100) { b"012".as_slice() } else { b"01" });
+    let count = 1 + r.below(most);
+    let digits = (0..count).map(|_| digits[r.below(digits.len() as u64) as usize] as char);
+    "0b".chars().chain(digits).collect()
 }
 
 fn immediate(r: &mut Random, labels: u64) -> String {
@@ -20,7 +34,7 @@ fn immediate(r: &mut Random, labels: u64) -> String {
         let n = if r.once_in(100) { labels } else { r.below(labels) };
         format!("L{n}")
     } else {
-        number(r, &IMMEDIATES).to_string()
+        number(r, &IMMEDIATES, 12)
     }
 }
 
@@ -61,7 +75,7 @@ pub fn assembly(r: &mut Random, most_lines: u64) -> Vec<u8> {
             text += &format!("{}L{n}:{}", blanks(r), if r.once_in(2) { "\n" } else { blanks(r) });
         }
         text += &match r.below(6) {
-            0 => format!(".word {}{} {}", number(r, &["0", "1", "4095", "0xFFF", "-0"]), blanks(r), number(r, &DATA)),
+            0 => format!(".word {}{} {}", number(r, &ADDRESSES, 12), blanks(r), number(r, &DATA, 32)),
             1 => blanks(r).to_string(),
             _ => instruction(r, labels),
         };
@@ -74,7 +88,7 @@ pub fn assembly(r: &mut Random, most_lines: u64) -> Vec<u8> {
         text += &format!("L{n}:\n");
     }
     let mut bytes = text.into_bytes();
-    r.damage(&mut bytes, b" \t\r,:#$-0x1aL.\n");
+    r.damage(&mut bytes, b" \t\r,:#$-0xb12aL.\n");
     if r.once_in(4) {
         bytes.pop();
     }

@@ -2,7 +2,7 @@
 
 use crate::machine::{encode, Instruction};
 use crate::names::{OPS, REGISTERS};
-use crate::text::{decimal_value, hex_value, lines};
+use crate::text::{binary_value, decimal_value, hex_value, lines};
 use crate::{Refusal, DATA_WORDS, IMAGE_WORDS, SOURCE_BYTES};
 use std::collections::{HashMap, HashSet};
 
@@ -80,12 +80,19 @@ fn register_form(token: &[u8]) -> Option<String> {
 }
 
 /// "Numbers: decimal of 1 to 10 digits, `-` allowed, or 0x and 1 to 8 digits of either case."
+/// Document 02 (i): "A number may also be 0b and 1 to 32 binary digits, unsigned".
 fn number_form(token: &[u8]) -> Option<i64> {
     if let Some(digits) = token.strip_prefix(b"0x") {
         if digits.len() > 8 {
             return None;
         }
         return hex_value(digits).map(|value| value as i64);
+    }
+    if let Some(digits) = token.strip_prefix(b"0b") {
+        if digits.len() > 32 {
+            return None;
+        }
+        return binary_value(digits).map(|value| value as i64);
     }
     let (negative, digits) = match token.strip_prefix(b"-") {
         Some(digits) => (true, digits),

@@ -1,8 +1,8 @@
-//! The SIMP lab, written a second time from documents 01 and 003 and the open points alone.
+//! The SIMP lab, written a second time from documents 01, 02 and 003 and the open points alone.
 //!
 //! This crate is the other side of differential tests and the source of expected outputs.
 //! It follows document 01 in its words and its order. It is plain rather than fast.
-//! Names such as A7 or M3 in comments are the open points (OPEN-POINTS.md).
+//! Names such as A7 or M3 in comments are the open points (OPEN-POINTS.md, OPEN-POINTS-02.md).
 
 pub mod assembler;
 pub mod files;

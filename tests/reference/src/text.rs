@@ -36,6 +36,21 @@ pub fn hex_value(digits: &[u8]) -> Option<u64> {
     Some(value)
 }
 
+/// The value of a text of binary digits; None for any other byte and for no digit.
+/// The caller asks for the number of digits, 32 at most.
+pub fn binary_value(digits: &[u8]) -> Option<u64> {
+    let mut value = 0;
+    for digit in digits {
+        value <<= 1;
+        match digit {
+            b'0' => {}
+            b'1' => value |= 1,
+            _ => return None,
+        }
+    }
+    (!digits.is_empty()).then_some(value)
+}
+
 /// The value of a text of decimal digits; None for any other byte and for no digit.
 /// The caller asks for the number of digits, 13 at most.
 pub fn decimal_value(digits: &[u8]) -> Option<u64> {

@@ -1,4 +1,4 @@
-//! The open points A1 to A22 and the assembler's questions.
+//! The open points A1 to A22 and B1 to B5 and the assembler's questions.
 
 mod common;
 use common::*;
@@ -163,7 +163,7 @@ fn a7_hex_numbers() {
 
 #[test]
 fn a8_decimal_numbers() {
-    for wrong in ["-0x1", "+1", "--1", "- 1", "-", "1-", "1.0", "1e3", "0b1"] {
+    for wrong in ["-0x1", "+1", "--1", "- 1", "-", "1-", "1.0", "1e3", "0o7"] {
         assert_eq!(number(&format!(".word 0 {wrong}")), 3, "{wrong}");
         assert_eq!(
             number(&format!("add $v0, $a0, $a1, $a2, {wrong}, 2")),
@@ -198,6 +198,53 @@ fn a9_longer_numbers_and_labels() {
         number(&format!("add $v0, $a0, $a1, $a2, {fifty_one}, 2")),
         3
     );
+}
+
+#[test]
+fn b1_binary_digits() {
+    let (ones, zeros) = ("1".repeat(32), "0".repeat(31));
+    assert_eq!(good(".word 0b11 0b1010").1[3], 10);
+    assert_eq!(good(&format!(".word 0 0b{ones}")).1[0], 0xFFFF_FFFF);
+    assert_eq!(good(&format!(".word 0 0b{zeros}1")).1[0], 1);
+    let longer = [format!("0b{zeros}01"), format!("0b{ones}1")];
+    for wrong in ["0b", "0b2", "0b12", "0b1_0", "0bA", "0b1b", &longer[0], &longer[1]] {
+        wrong_form(wrong);
+    }
+}
+
+#[test]
+fn b2_b3_no_capital_and_no_sign() {
+    for wrong in ["0B1", "-0b1", "-0b0", "+0b1"] {
+        wrong_form(wrong);
+    }
+    let ones = "1".repeat(32);
+    assert_eq!(number(&format!("add $v0, $a0, $a1, $a2, 0b{ones}, 2")), 5);
+}
+
+#[test]
+fn b4_the_same_ranges_at_each_place() {
+    let (image, memory) = good(".word 0b111111111111 0b1\nadd $v0, $a0, $a1, $a2, 0b1010, 0b111111111111");
+    assert_eq!((image[0], memory[4095]), (0x00345600AFFF, 1));
+    assert_eq!(number("add $v0, $a0, $a1, $a2, 0b1000000000000, 2"), 5);
+    assert_eq!(number("add $v0, $a0, $a1, $a2, 1, 0b1000000000000"), 5);
+    assert_eq!(number(".word 0b1000000000000 1"), 5);
+}
+
+#[test]
+fn b5_one_token_and_what_was_there_before() {
+    for wrong in ["0b 1", "0 b1", "00b1"] {
+        wrong_form(wrong);
+    }
+    let labelled = good("b1010: add $v0, $a0, $a1, $a2, b1010, 0x0b1");
+    assert_eq!(labelled.0[0], 0x0034560000B1);
+}
+
+/// As a `.word` address, its data and each immediate.
+#[track_caller]
+fn wrong_form(token: &str) {
+    for line in [format!(".word {token} 1"), format!(".word 1 {token}"), format!("add $v0, $a0, $a1, $a2, {token}, 2"), format!("add $v0, $a0, $a1, $a2, 1, {token}")] {
+        assert_eq!(number(&line), 3, "{line}");
+    }
 }
 
 #[test]

@@ -1,0 +1,2 @@
+# one digit at least
+.word 1 0b

@@ -1,0 +1,2 @@
+# digits alone
+.word 1 0b1_0

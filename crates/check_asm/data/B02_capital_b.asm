@@ -1,0 +1,2 @@
+# a small b only
+.word 1 0B1

@@ -1,0 +1,2 @@
+# no sign
+.word 1 -0b1

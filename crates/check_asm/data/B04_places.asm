@@ -1,0 +1,3 @@
+# in both immediates, the address and the data
+.word 0b111111111111 0b11111111111111111111111111111111
+add $v0, $a0, $a1, $a2, 0b111111111111, 0b11111111111

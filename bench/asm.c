@@ -1,5 +1,5 @@
 // Times the proved assembler and lister beside an assembler and a lister in C, on full programs and on the worst texts that we could think of, and
-// compares their answers, images, data memories and listings on these and on random texts. The C side is written for speed from document 01 alone: byte
+// compares their answers, images, data memories and listings on these and on random texts. The C side is written for speed from documents 01 and 02 alone: byte
 // classes in a table, each line split once, names and labels by hashing, one buffer.
 #include <stdint.h>
 #include <stdio.h>
@@ -390,6 +390,7 @@ static const char *an_immediate(char *a, uint32_t labels) {
 }
 
 static void random_text(void) {
+    static const char *const addresses[] = {"0x7F", "4095", "0b1111110"};
     static const char damage[] = " \t\r,:#$-0xb12aL.\n";
     char line[200], a[40], b[40];
     uint32_t labels = draw(8), next = 0, n = draw(24);
@@ -399,7 +400,7 @@ static void random_text(void) {
         const char *rs = regs[draw(16)], *rt = regs[draw(16)], *rm = regs[draw(16)];
         an_immediate(a, labels), an_immediate(b, labels);
         switch (draw(6)) {
-        case 0: snprintf(line, sizeof line, ".word %s %s%s\n", draw(2) ? "0x7F" : "4095", a_number(0), draw(2) ? "" : " # c"); break;
+        case 0: snprintf(line, sizeof line, ".word %s %s%s\n", addresses[draw(3)], a_number(0), draw(2) ? "" : " # c"); break;
         case 1: snprintf(line, sizeof line, "%s\n", draw(2) ? "" : "\t # only a comment"); break;
         case 2: snprintf(line, sizeof line, "%s\t%s ,%s,%s, %s,%s ,%s%s\n", op, rd, rs, rt, rm, a, b, draw(3) ? "" : "#c\r"); break;
         default: snprintf(line, sizeof line, "%s %s, %s, %s, %s, %s, %s\n", op, rd, rs, rt, rm, a, b); break;

@@ -115,7 +115,7 @@ data-words : take 6 (words ".word -0 5\n.word 1 4294967295\n.word 2 -2147483648\
 unfolding words
 data-words = refl
 
--- B4: binary numbers in both immediates, as an address and as data. B3: "unsigned", so a leading 1 makes none negative.
+-- B4: binary numbers in both immediates, as an address and as data.
 binary-immediates : word (bytes "add $zero, $zero, $zero, $zero, 0b1010, 0b111111111111") ≡ 0x00000000AFFF
 unfolding word
 binary-immediates = refl
@@ -265,7 +265,7 @@ word-ranges : map outcome
 unfolding outcome
 word-ranges = refl
 
--- B4: "with the same ranges", at each of the four places. B3: 32 ones are no -1 as an immediate.
+-- B4: "with the same ranges", at each of the four places. B3: "unsigned", 32 ones are no -1 as an immediate.
 binary-ranges : map outcome
     ("add $zero, $zero, $zero, $zero, 0b111111111111, 0b0" ∷ ".word 0b111111111111 0b11111111111111111111111111111111"
     ∷ "add $zero, $zero, $zero, $zero, 0b1000000000000, 0" ∷ "add $zero, $zero, $zero, $zero, 0, 0b1000000000000"

@@ -48,7 +48,7 @@ term:   mac  $t0, $s0, $imm1, $s2, 4, 0            # $t0 = 4*i + k
         .word 0x10E 15
         .word 0x10F 16
 
-# B: some numbers below zero too; data may be decimal, negative or hexadecimal
+# B: some numbers below zero too; data may be decimal, negative, hexadecimal or binary
         .word 0x110 2                              # row 0
         .word 0x111 -1
         .word 0x112 0

@@ -5,12 +5,13 @@ use lib.Dec.{leb}
 use Rattle.source.specs.declared.Number.{Number}
 use Rattle.source.specs.declared.Number.the-variants.{Decimal, Minus, Unsigned, NoNumber}
 
--- A number from -below up: a decimal to `decimals`, one of another form to `others`. Of a token that is no number this isn't asked.
-abbrev pub isWithin : (below decimals others : ℕ) → Number → Bool
-isWithin below decimals others (Decimal v) = leb v decimals
-isWithin below decimals others (Minus v) = leb v below
-isWithin below decimals others (Unsigned v) = leb v others
-isWithin below decimals others NoNumber = true
+-- A number is at least -below; a decimal is at most `decimal`, a number of another form at most `other`. Of a token that is no number this isn't asked.
+-- Document 02 (i): 0b "with the same ranges".
+abbrev pub isWithin : (below decimal other : ℕ) → Number → Bool
+isWithin below decimal other (Decimal v) = leb v decimal
+isWithin below decimal other (Minus v) = leb v below
+isWithin below decimal other (Unsigned v) = leb v other
+isWithin below decimal other NoNumber = true
 
 -- "Immediates run from -2048 to 4095"
 abbrev pub isImmediate : Number → Bool

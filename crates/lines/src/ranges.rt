@@ -4,14 +4,14 @@ ghost use mathlib.Core.Path.{_≡_};
 ghost use Prim.Native.Nat.{ℕ, _^_, _<_};
 ghost use Rattle.lines.specs.Ranges.{isWithin, modulo as moduloOf};
 
-// Whether a number runs from -below up, a decimal to `decimals` and one of another form to `others`; what is no number does.
-pub fn is_within(n: Number, below: u64, decimals: u64, others: u64) -> bool
-    ensures { λ r. ⌜ r ≡ isWithin below decimals others n ⌝ }
+// Whether a number is at least -below and, a decimal, at most `decimal` or, of another form, at most `other`; yes of what is no number.
+pub fn is_within(n: Number, below: u64, decimal: u64, other: u64) -> bool
+    ensures { λ r. ⌜ r ≡ isWithin below decimal other n ⌝ }
 {
     match n {
-        Number::Decimal(v) => v <= decimals,
+        Number::Decimal(v) => v <= decimal,
         Number::Minus(v) => v <= below,
-        Number::Unsigned(v) => v <= others,
+        Number::Unsigned(v) => v <= other,
         Number::NoNumber => true,
     }
 }

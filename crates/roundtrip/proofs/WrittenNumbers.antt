@@ -2,12 +2,12 @@
 use Prim.Native.Nat.{ℕ, _+_, _-_, _^_, _≤_, _<_}
 use Prim.Native.Char.{code}
 use mathlib.Core.Path.{_≡_, refl, _∙_, ap}
-use mathlib.Core.Bool.{Bool, true, false, cond, not}
+use mathlib.Core.Bool.{Bool, true, false, cond}
 use mathlib.Core.List.{List, [], _∷_, _++_}
 use native.Mathlib.Omega.{arith}
-use lib.Dec.{eqb, ltb, leb}
-use lib.ListN.{length, take}
-use borrow.Author.Tests.{not-true, ltb-true, ltb-false, leb-true, le-leb}
+use lib.Dec.{ltb, leb}
+use lib.ListN.{length}
+use borrow.Author.Tests.{ltb-true, ltb-false, leb-true, le-leb}
 use Rattle.text.specs.Bytes.{bytes}
 use Rattle.text.specs.Numerals.{isBetween, digitValue, allDigits, value, decimal}
 use Rattle.text.proofs.Truth.{and-left, and-right, allBelow, between}
@@ -15,7 +15,7 @@ use Rattle.text.proofs.DecimalLaws.{count-pos, count-le, length-decimal, all-de
 use Rattle.source.specs.declared.Number.the-variants.{Decimal, Minus}
 use Rattle.source.specs.Bytes.{areAll}
 use Rattle.source.specs.Numbers.{number, isNumber}
-use Rattle.source.proofs.NumberLaws.{no-prefix}
+use Rattle.source.proofs.NumberLaws.{no-front}
 use Rattle.text.specs.Same.{same}
 use Rattle.lines.specs.Ranges.{isImmediate, modulo}
 use Rattle.lister.specs.Listing.{signedDecimal}
@@ -60,18 +60,10 @@ plain-digits (c ∷ s) e =
 
 -- ---- digits read as a number
 
--- Digits do not begin with `-`.
-no-minus : (s : List ℕ) → allDigits 10 s ≡ true → same (take 1 s) (bytes "-") ≡ false
-unfolding allDigits same
-no-minus [] e = refl
-no-minus (c ∷ s) e =
-    let here = and-left (ltb (digitValue c) 10) (allDigits 10 s) e in
-    rw (not-true (eqb c (code "-")) (digit-passes (λ n. not (eqb n (code "-"))) refl c here))
-
 module _ (s : List ℕ) (some : 1 ≤ length s) (few : length s ≤ 10) (e : allDigits 10 s ≡ true) where
   number-digits : number s ≡ Decimal (value 10 s)
-  unfolding number
-  number-digits = rw (no-minus s e, no-prefix (code "x") refl s e, no-prefix (code "b") refl s e, le-leb 1 (length s) some, le-leb (length s) 10 few, e)
+  unfolding number allDigits
+  number-digits = rw (no-front (bytes "-") refl s e, no-front (bytes "0x") refl s e, no-front (bytes "0b") refl s e, le-leb 1 (length s) some, le-leb (length s) 10 few, e)
 
   number-minus : number (bytes "-" ++ s) ≡ Minus (value 10 s)
   unfolding number same

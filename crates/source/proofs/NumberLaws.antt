@@ -1,6 +1,5 @@
 -- How each answer on a number meets its definition. Assumes nothing.
-use Prim.Native.Nat.{ℕ, _-_, _^_, _≤_, _<_}
-use Prim.Native.Char.{code}
+use Prim.Native.Nat.{ℕ, zero, suc, _-_, _^_, _≤_, _<_}
 use mathlib.Core.Path.{_≡_, refl, sym, _∙_, ap}
 use mathlib.Core.Bool.{Bool, true, false, cond, _&&_, false≢true}
 use mathlib.Core.List.{List, [], _∷_, _++_}
@@ -11,14 +10,16 @@ use lib.ListN.{length, take, drop, length-drop, take-append-drop}
 use lib.Seq.{take-all}
 use borrow.Author.Tests.{le-leb, lt-leb}
 use Rattle.text.specs.Bytes.{bytes}
-use Rattle.text.specs.Numerals.{digitValue, allDigits, value, numeral}
+use Rattle.text.specs.Numerals.{digitValue, allDigits, numeral}
 use Rattle.text.specs.declared.Numeral.{Numeral}
-use Rattle.text.specs.declared.Numeral.the-variants.{Value, NoNumeral}
+use Rattle.text.specs.declared.Numeral.the-variants.{NoNumeral}
 use Rattle.source.specs.declared.Number.{Number}
 use Rattle.source.specs.declared.Number.the-variants.{Decimal, Minus, Unsigned, NoNumber}
-use Rattle.source.specs.Numbers.{digitsUpTo, written, decimalDigits, unsigned, number}
+use Rattle.source.specs.Numbers.{digitsUpTo, written, decimalDigits, hexadecimalDigits, binaryDigits, unsigned, number}
+use Rattle.source.specs.Names.{isName}
 use Rattle.text.specs.Same.{same}
 use Rattle.text.proofs.SameLaws.{same-equal}
+use Rattle.text.proofs.Truth.{and-left, and-right}
 
 -- ---- so many digits
 
@@ -50,12 +51,12 @@ module _ (t : List ℕ) (a : Bool) (minus : a ≡ same (take 1 t) (bytes "-")) w
   is-minus e n q r p = rw (← minus, e) (p ∙ ap (written Minus) (q ∙ ap (digitsUpTo 10 10) (rest-of 1 t)))
 
   module _ (e : a ≡ false) (b : Bool) (hexadecimal : b ≡ same (take 2 t) (bytes "0x")) where
-    pub is-hexadecimal : b ≡ true → (r : Number) → r ≡ unsigned 16 8 t → r ≡ number t
+    pub is-hexadecimal : b ≡ true → (r : Number) → r ≡ unsigned 16 hexadecimalDigits t → r ≡ number t
     unfolding number
     is-hexadecimal f r p = rw (← minus, e, ← hexadecimal, f) p
 
     module _ (f : b ≡ false) (c : Bool) (binary : c ≡ same (take 2 t) (bytes "0b")) where
-      pub is-binary : c ≡ true → (r : Number) → r ≡ unsigned 2 32 t → r ≡ number t
+      pub is-binary : c ≡ true → (r : Number) → r ≡ unsigned 2 binaryDigits t → r ≡ number t
       unfolding number
       is-binary g r p = rw (← minus, e, ← hexadecimal, f, ← binary, g) p
 
@@ -63,24 +64,36 @@ module _ (t : List ℕ) (a : Bool) (minus : a ≡ same (take 1 t) (bytes "-")) w
       unfolding number
       is-decimal g n q r p = rw (← minus, e, ← hexadecimal, f, ← binary, g) (p ∙ ap (written Decimal) q)
 
--- ---- a number has one way to be written
+-- ---- what decimal digits begin with
 
--- Decimal digits begin with no prefix: `0` and a byte that is none of them.
-pub no-prefix : (x : ℕ) → ltb (digitValue x) 10 ≡ false → (s : List ℕ) → allDigits 10 s ≡ true → same (take 2 s) (code "0" ∷ x ∷ []) ≡ false
+digits-front : (n : ℕ) (t : List ℕ) → allDigits 10 t ≡ true → allDigits 10 (take n t) ≡ true
 unfolding allDigits
-no-prefix x none s e = go (same (take 2 s) (code "0" ∷ x ∷ [])) refl
-  where
-    go : (t : Bool) → same (take 2 s) (code "0" ∷ x ∷ []) ≡ t → t ≡ false
-    go true is =
-        let whole : s ≡ code "0" ∷ x ∷ drop 2 s = sym (take-append-drop 2 s) ∙ ap (λ (u : List ℕ). u ++ drop 2 s) (same-equal _ _ is) in
-        absurd (false≢true (rw (whole, none) at e))
-    go false is = refl
+digits-front zero t e = refl
+digits-front (suc n) [] e = refl
+digits-front (suc n) (c ∷ t) e =
+    rw (and-left (ltb (digitValue c) 10) (allDigits 10 t) e, digits-front n t (and-right (ltb (digitValue c) 10) (allDigits 10 t) e))
 
--- B5: what was a number before is one still, and means the same: no token that begins with 0b was one.
-pub binary-was-none : (t : List ℕ) → same (take 2 t) (bytes "0b") ≡ true → written Decimal (digitsUpTo 10 decimalDigits t) ≡ NoNumber
-binary-was-none t begins = go (allDigits 10 t) refl (leb 1 (length t) && leb (length t) decimalDigits)
+-- They begin with digits alone, so with no `-`, 0x or 0b.
+pub no-front : (front : List ℕ) → allDigits 10 front ≡ false → (t : List ℕ) → allDigits 10 t ≡ true → same (take (length front) t) front ≡ false
+no-front front none t e = go (same (take (length front) t) front) refl
   where
-    go : (digits : Bool) → allDigits 10 t ≡ digits → (many : Bool) → written Decimal (cond many (cond digits (Value (value 10 t)) NoNumeral) NoNumeral) ≡ NoNumber
-    go true is many = absurd (false≢true (sym (no-prefix (code "b") refl t is) ∙ begins))
-    go false is true = refl
-    go false is false = refl
+    go : (b : Bool) → same (take (length front) t) front ≡ b → b ≡ false
+    go true begins = absurd (false≢true (sym none ∙ ap (allDigits 10) (sym (same-equal _ _ begins)) ∙ digits-front (length front) t e))
+    go false begins = refl
+
+-- B5: a token that begins with 0b is neither a decimal number nor a name, so what was accepted before 0b came has the same meaning.
+module _ (t : List ℕ) (begins : same (take 2 t) (bytes "0b") ≡ true) where
+  pub binary-no-decimal : written Decimal (digitsUpTo 10 decimalDigits t) ≡ NoNumber
+  unfolding allDigits
+  binary-no-decimal = go (allDigits 10 t) refl (leb 1 (length t) && leb (length t) decimalDigits)
+    where
+      go : (digits : Bool) → allDigits 10 t ≡ digits → (right : Bool) → written Decimal (cond right (numeral 10 t) NoNumeral) ≡ NoNumber
+      go true is right = absurd (false≢true (sym (no-front (bytes "0b") refl t is) ∙ begins))
+      go false is true = rw is
+      go false is false = refl
+
+  pub binary-no-name : isName t ≡ false
+  unfolding isName
+  binary-no-name =
+      let whole : t ≡ bytes "0b" ++ drop 2 t = sym (take-append-drop 2 t) ∙ ap (λ (u : List ℕ). u ++ drop 2 t) (same-equal _ _ begins) in
+      rw whole

@@ -69,19 +69,19 @@ unfolding number same allDigits value
 no-numbers = refl
 
 -- B1: 1 to 32 binary digits, leading zeros among them; ..
-binary : map number (bytes "0b1010" ∷ bytes "0b0" ∷ (bytes "0b" ++ replicate 32 49) ∷ (bytes "0b" ++ replicate 31 48 ++ bytes "1") ∷ [])
+binary-numbers : map number (bytes "0b1010" ∷ bytes "0b0" ∷ (bytes "0b" ++ replicate 32 49) ∷ (bytes "0b" ++ replicate 31 48 ++ bytes "1") ∷ [])
     ≡ Unsigned 10 ∷ Unsigned 0 ∷ Unsigned 0xFFFFFFFF ∷ Unsigned 1 ∷ []
 unfolding number same allDigits value
-binary = refl
+binary-numbers = refl
 
 -- .. no digit, a digit 2, another byte among the digits, 33 digits, whatever their value: no number.
-binary-digits : map number
+no-binary-numbers : map number
     (bytes "0b" ∷ bytes "0b2" ∷ bytes "0b12" ∷ bytes "0b1_0" ∷ bytes "0bA" ∷ (bytes "0b" ++ replicate 33 49) ∷ (bytes "0b" ++ replicate 33 48) ∷ [])
     ≡ replicate 7 NoNumber
 unfolding number same allDigits value
-binary-digits = refl
+no-binary-numbers = refl
 
--- B2: a small b only. B3: "unsigned", so no sign before it.
+-- B2: a small b only. B3: "unsigned", so no sign before it; nor anything else, and no b alone.
 binary-prefix : map (λ (s : String). number (bytes s)) ("0B1" ∷ "-0b1" ∷ "-0b0" ∷ "+0b1" ∷ "b1" ∷ "00b1" ∷ []) ≡ replicate 6 NoNumber
 unfolding number same allDigits value
 binary-prefix = refl
@@ -95,9 +95,9 @@ binary-name : map (λ (s : String). isName (bytes s)) ("b1010" ∷ "0b1010" ∷ 
 unfolding isName areAll
 binary-name = refl
 
-binary-in-hexadecimal : number (bytes "0x0b1") ≡ Unsigned 0xB1
+hexadecimal-stays : number (bytes "0x0b1") ≡ Unsigned 0xB1
 unfolding number same allDigits value
-binary-in-hexadecimal = refl
+hexadecimal-stays = refl
 
 -- ---- names
 

@@ -1,5 +1,5 @@
 -- "Numbers: decimal of 1 to 10 digits, `-` allowed, or 0x and 1 to 8 digits of either case. A longer number or label is wrong form."
--- Document 02 (i): "A number may also be 0b and 1 to 32 binary digits, unsigned, with the same ranges."
+-- Document 02 (i): "A number may also be 0b and 1 to 32 binary digits, unsigned".
 use Prim.Native.Nat.{ℕ}
 use mathlib.Core.Bool.{Bool, true, false, cond, _&&_}
 use mathlib.Core.List.{List}

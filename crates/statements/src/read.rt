@@ -25,7 +25,7 @@ ghost use Rattle.lines.specs.Names.{NameTable};
 ghost use Rattle.labels.specs.Tables.{LabelTable};
 ghost use Rattle.statements.specs.Reading.{ImmediateRead, StatementRead};
 
-// Immediates run from -2048 to 4095 and are stored modulo 4096.
+// Immediates run from -2048 to 4095, of whatever form, and are stored modulo 4096.
 const IMMEDIATE_BELOW: u64 = 2048;
 
 const IMMEDIATE_LAST: u64 = 4095;

@@ -21,7 +21,7 @@ fn number(r: &mut Random, good: &[&'static str], bits: u64) -> String {
     }
 }
 
-/// 0b and up to so many binary digits, now and then up to 34; now and then one of them is a 2.
+/// 0b and up to so many binary digits, now and then up to 34; now and then with digits 2 among them.
 fn binary(r: &mut Random, bits: u64) -> String {
     let (most, digits) = (if r.once_in(40) { 34 } else { bits }, if r.once_in(100) { b"012".as_slice() } else { b"01" });
     let count = 1 + r.below(most);

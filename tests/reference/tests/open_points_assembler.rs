@@ -201,53 +201,6 @@ fn a9_longer_numbers_and_labels() {
 }
 
 #[test]
-fn b1_binary_digits() {
-    let (ones, zeros) = ("1".repeat(32), "0".repeat(31));
-    assert_eq!(good(".word 0b11 0b1010").1[3], 10);
-    assert_eq!(good(&format!(".word 0 0b{ones}")).1[0], 0xFFFF_FFFF);
-    assert_eq!(good(&format!(".word 0 0b{zeros}1")).1[0], 1);
-    let longer = [format!("0b{zeros}01"), format!("0b{ones}1")];
-    for wrong in ["0b", "0b2", "0b12", "0b1_0", "0bA", "0b1b", &longer[0], &longer[1]] {
-        wrong_form(wrong);
-    }
-}
-
-#[test]
-fn b2_b3_no_capital_and_no_sign() {
-    for wrong in ["0B1", "-0b1", "-0b0", "+0b1"] {
-        wrong_form(wrong);
-    }
-    let ones = "1".repeat(32);
-    assert_eq!(number(&format!("add $v0, $a0, $a1, $a2, 0b{ones}, 2")), 5);
-}
-
-#[test]
-fn b4_the_same_ranges_at_each_place() {
-    let (image, memory) = good(".word 0b111111111111 0b1\nadd $v0, $a0, $a1, $a2, 0b1010, 0b111111111111");
-    assert_eq!((image[0], memory[4095]), (0x00345600AFFF, 1));
-    assert_eq!(number("add $v0, $a0, $a1, $a2, 0b1000000000000, 2"), 5);
-    assert_eq!(number("add $v0, $a0, $a1, $a2, 1, 0b1000000000000"), 5);
-    assert_eq!(number(".word 0b1000000000000 1"), 5);
-}
-
-#[test]
-fn b5_one_token_and_what_was_there_before() {
-    for wrong in ["0b 1", "0 b1", "00b1"] {
-        wrong_form(wrong);
-    }
-    let labelled = good("b1010: add $v0, $a0, $a1, $a2, b1010, 0x0b1");
-    assert_eq!(labelled.0[0], 0x0034560000B1);
-}
-
-/// As a `.word` address, its data and each immediate.
-#[track_caller]
-fn wrong_form(token: &str) {
-    for line in [format!(".word {token} 1"), format!(".word 1 {token}"), format!("add $v0, $a0, $a1, $a2, {token}, 2"), format!("add $v0, $a0, $a1, $a2, 1, {token}")] {
-        assert_eq!(number(&line), 3, "{line}");
-    }
-}
-
-#[test]
 fn a10_an_op_has_a_labels_form() {
     assert_eq!(number(&format!("foo {OPERANDS}")), 4);
     assert_eq!(number(&format!("{} {OPERANDS}", "a".repeat(50))), 4);
@@ -497,6 +450,53 @@ fn a22_the_rest_is_zero() {
     // "the later .word of one address wins; the rest is zero"
     assert_eq!(data[3], 5);
     assert_eq!(data.iter().map(|word| *word as u64).sum::<u64>(), 5);
+}
+
+#[test]
+fn b1_binary_digits() {
+    let (ones, zeros) = ("1".repeat(32), "0".repeat(31));
+    assert_eq!(good(".word 0b11 0b1010").1[3], 10);
+    assert_eq!(good(&format!(".word 0 0b{ones}")).1[0], 0xFFFF_FFFF);
+    assert_eq!(good(&format!(".word 0 0b{zeros}1")).1[0], 1);
+    let longer = [format!("0b{zeros}01"), format!("0b{ones}1")];
+    for wrong in ["0b", "0b2", "0b12", "0b1_0", "0bA", "0b1b", &longer[0], &longer[1]] {
+        wrong_form(wrong);
+    }
+}
+
+#[test]
+fn b2_b3_no_capital_and_no_sign() {
+    for wrong in ["0B1", "-0b1", "-0b0", "+0b1"] {
+        wrong_form(wrong);
+    }
+    let ones = "1".repeat(32);
+    assert_eq!(number(&format!("add $v0, $a0, $a1, $a2, 0b{ones}, 2")), 5);
+}
+
+#[test]
+fn b4_the_same_ranges_at_each_place() {
+    let (image, memory) = good(".word 0b111111111111 0b1\nadd $v0, $a0, $a1, $a2, 0b1010, 0b111111111111");
+    assert_eq!((image[0], memory[4095]), (0x00345600AFFF, 1));
+    assert_eq!(number("add $v0, $a0, $a1, $a2, 0b1000000000000, 2"), 5);
+    assert_eq!(number("add $v0, $a0, $a1, $a2, 1, 0b1000000000000"), 5);
+    assert_eq!(number(".word 0b1000000000000 1"), 5);
+}
+
+#[test]
+fn b5_one_token_and_what_was_there_before() {
+    for wrong in ["0b 1", "0 b1", "00b1"] {
+        wrong_form(wrong);
+    }
+    let labelled = good("b1010: add $v0, $a0, $a1, $a2, b1010, 0x0b1");
+    assert_eq!(labelled.0[0], 0x0034560000B1);
+}
+
+/// The token is 3 as a `.word` address, as its data and as each immediate.
+#[track_caller]
+fn wrong_form(token: &str) {
+    for line in [format!(".word {token} 1"), format!(".word 1 {token}"), format!("add $v0, $a0, $a1, $a2, {token}, 2"), format!("add $v0, $a0, $a1, $a2, 1, {token}")] {
+        assert_eq!(number(&line), 3, "{line}");
+    }
 }
 
 #[test]

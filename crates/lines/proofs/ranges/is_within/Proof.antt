@@ -19,13 +19,13 @@ enum-told : tie.Need-enum-told
 enum-told c = search needs
 
 returns : tie.Need-returns
-returns c = let s = c .before .before .before .args in sym (ap (isWithin (s .below) (s .decimals) (s .others)) (c .before .n .given .1))
+returns c = let s = c .before .before .before .args in sym (ap (isWithin (s .below) (s .decimal) (s .other)) (c .before .n .given .1))
 
 returns-2 : tie.Need-returns-2
-returns-2 c = let s = c .before .before .before .args in sym (ap (isWithin (s .below) (s .decimals) (s .others)) (c .before .n2 .given .1))
+returns-2 c = let s = c .before .before .before .args in sym (ap (isWithin (s .below) (s .decimal) (s .other)) (c .before .n2 .given .1))
 
 returns-3 : tie.Need-returns-3
-returns-3 c = let s = c .before .before .before .args in sym (ap (isWithin (s .below) (s .decimals) (s .others)) (c .before .n3 .given .1))
+returns-3 c = let s = c .before .before .before .args in sym (ap (isWithin (s .below) (s .decimal) (s .other)) (c .before .n3 .given .1))
 
 returns-4 : tie.Need-returns-4
 returns-4 c = search needs

@@ -1,5 +1,5 @@
 -- What the lines of a text store, taken together and one by one. Assumes nothing.
-use Prim.Native.Nat.{ℕ, suc}
+use Prim.Native.Nat.{ℕ, suc, _^_}
 use mathlib.Core.Path.{_≡_, refl, ap}
 use mathlib.Core.Bool.{Bool, true, false, cond}
 use mathlib.Core.List.{List, [], _∷_, _++_}
@@ -23,7 +23,7 @@ words-append all (l ∷ a) b = go (hasCode (formOf l)) (words-append all a b)
 pub stored-append : (m : List ℕ) (a b : List (List ℕ)) → stored m (a ++ b) ≡ stored (stored m a) b
 unfolding stored
 stored-append m [] b = refl
-stored-append m (l ∷ a) b = stored-append (cond (hasWord (formOf l)) (set m (modulo 12 (number (part 1 l))) (modulo 32 (number (part 2 l)))) m) a b
+stored-append m (l ∷ a) b = stored-append (cond (hasWord (formOf l)) (set m (modulo 4096 (number (part 1 l))) (modulo (2 ^ 32) (number (part 2 l)))) m) a b
 
 -- There are as many words as instructions.
 pub length-words : (all ls : List (List ℕ)) → length (codeOf all ls) ≡ codeCount ls

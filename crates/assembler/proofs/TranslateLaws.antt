@@ -201,11 +201,11 @@ module _ {source words memory : List ℕ} {p i n m : ℕ} (d : Translating sourc
         next-stores memory′ w =
             w
             ∙ go (hasWord f) refl
-            ∙ ap (λ (g : Form). cond (hasWord g) (set memory (modulo 12 (number (part 1 line))) (modulo 32 (number (part 2 line)))) memory) form
+            ∙ ap (λ (g : Form). cond (hasWord g) (set memory (modulo 4096 (number (part 1 line))) (modulo (2 ^ 32) (number (part 2 line)))) memory) form
             ∙ ap (λ (x : List ℕ). stored x (line ∷ [])) (d .stores)
             ∙ sym (stored-append (replicate dataWords 0) (d .done) (line ∷ []))
           where
-            go : (b : Bool) → hasWord f ≡ b → cond b (set memory (s .address) (s .value)) memory ≡ cond (hasWord f) (set memory (modulo 12 (number (part 1 line))) (modulo 32 (number (part 2 line)))) memory
+            go : (b : Bool) → hasWord f ≡ b → cond b (set memory (s .address) (s .value)) memory ≡ cond (hasWord f) (set memory (modulo 4096 (number (part 1 line))) (modulo (2 ^ 32) (number (part 2 line)))) memory
             go true h = rw (h, says .address h, says .value h)
             go false h = rw h
 

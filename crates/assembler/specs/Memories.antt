@@ -1,5 +1,5 @@
 -- What a good text gives: the image and the data memory.
-use Prim.Native.Nat.{ℕ, _-_}
+use Prim.Native.Nat.{ℕ, _-_, _^_}
 use mathlib.Core.Bool.{cond}
 use mathlib.Core.List.{List, [], _∷_, _++_}
 use lib.ListN.{length, set, replicate}
@@ -25,7 +25,7 @@ assembledImage source =
 unfoldable pub stored : List ℕ → List (List ℕ) → List ℕ
 stored memory [] = memory
 stored memory (l ∷ ls) =
-    stored (cond (hasWord (formOf l)) (set memory (modulo 12 (number (part 1 l))) (modulo 32 (number (part 2 l)))) memory) ls
+    stored (cond (hasWord (formOf l)) (set memory (modulo 4096 (number (part 1 l))) (modulo (2 ^ 32) (number (part 2 l)))) memory) ls
 
 unfoldable pub assembledData : List ℕ → List ℕ
 assembledData source = stored (replicate dataWords 0) (lines source)

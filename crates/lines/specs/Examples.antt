@@ -2,12 +2,14 @@
 use Prim.Native.Nat.{ℕ}
 use Prim.Native.String.{String}
 use mathlib.Core.Path.{_≡_, refl}
+use mathlib.Core.Bool.{true, false}
 use mathlib.Core.List.{List, [], _∷_, _++_, map}
 use lib.ListN.{replicate}
 use Rattle.text.specs.Bytes.{bytes}
 use Rattle.text.specs.Numerals.{allDigits, value}
 use Rattle.source.specs.Bytes.{areAll, areRightBytes}
 use Rattle.source.specs.Tokens.{tokensFrom}
+use Rattle.source.specs.declared.Number.the-variants.{Decimal, Minus, Unsigned, NoNumber}
 use Rattle.source.specs.Numbers.{number}
 use Rattle.text.specs.Same.{same}
 use Rattle.source.specs.Names.{isName, isRegister, isDefinition}
@@ -15,6 +17,7 @@ use Rattle.source.specs.Shapes.{fits, matches, firstShape}
 use Rattle.lines.specs.declared.Form.{Form}
 use Rattle.lines.specs.declared.Form.the-variants.{Nothing, Label, Code, Labelled, Word, Wrong}
 use Rattle.lines.specs.Line.{shapes, formOf}
+use Rattle.lines.specs.Ranges.{isWithin, modulo}
 
 unfoldable formOfBytes : List ℕ → Form
 unfolding formOf shapes firstShape matches fits isName isRegister isDefinition number same tokensFrom areRightBytes areAll allDigits value
@@ -123,6 +126,15 @@ longer-numbers : map form
     ≡ Word ∷ replicate 6 Wrong
 unfolding form
 longer-numbers = refl
+
+-- In range: from -1, decimals to 2 and the other forms to 3; what is no number always.
+within : map (isWithin 1 2 3) (Decimal 2 ∷ Decimal 3 ∷ Minus 1 ∷ Minus 2 ∷ Unsigned 3 ∷ Unsigned 4 ∷ NoNumber ∷ [])
+    ≡ true ∷ false ∷ true ∷ false ∷ true ∷ false ∷ true ∷ []
+within = refl
+
+-- "stored modulo 4096", here 16.
+remainders : map (modulo 16) (Decimal 17 ∷ Minus 1 ∷ Minus 16 ∷ Unsigned 18 ∷ NoNumber ∷ []) ≡ 1 ∷ 15 ∷ 0 ∷ 2 ∷ 0 ∷ []
+remainders = refl
 
 -- ---- names
 

@@ -1,5 +1,5 @@
 -- The ranges of numbers, and what is stored of them.
-use Prim.Native.Nat.{ℕ, _-_, _%_, _^_}
+use Prim.Native.Nat.{ℕ, _-_, _%_}
 use mathlib.Core.Bool.{Bool, true}
 use lib.Dec.{leb}
 use Rattle.source.specs.declared.Number.{Number}
@@ -25,9 +25,9 @@ isAddress n = isWithin 0 4095 4095 n
 abbrev pub isData : Number → Bool
 isData n = isWithin 0x80000000 0xFFFFFFFF 0xFFFFFFFF n
 
--- "stored modulo 4096": a number in so many bits.
-abbrev pub modulo : (bits : ℕ) → Number → ℕ
-modulo bits (Decimal v) = v % 2 ^ bits
-modulo bits (Minus v) = (2 ^ bits - v % 2 ^ bits) % 2 ^ bits
-modulo bits (Unsigned v) = v % 2 ^ bits
-modulo bits NoNumber = 0
+-- "stored modulo 4096": a number modulo m.
+abbrev pub modulo : (m : ℕ) → Number → ℕ
+modulo m (Decimal v) = v % m
+modulo m (Minus v) = (m - v % m) % m
+modulo m (Unsigned v) = v % m
+modulo m NoNumber = 0

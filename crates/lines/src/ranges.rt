@@ -1,7 +1,7 @@
 // Numbers in range, and what is stored of them.
 use source::Number;
 ghost use mathlib.Core.Path.{_≡_};
-ghost use Prim.Native.Nat.{ℕ, _^_, _<_};
+ghost use Prim.Native.Nat.{_<_};
 ghost use Rattle.lines.specs.Ranges.{isWithin, modulo as moduloOf};
 
 // Whether a number is at least -below and, a decimal, at most `decimal` or, of another form, at most `other`; yes of what is no number.
@@ -16,15 +16,15 @@ pub fn is_within(n: Number, below: u64, decimal: u64, other: u64) -> bool
     }
 }
 
-// A number in so many bits, given as their power of 2; 0 of what is no number.
-pub fn modulo(n: Number, power: u64) -> u64
-    requires { ⌜ 0 < power ⌝ }
-    ensures { λ r. ⌜ ((r < power) × ((bits : ℕ) → power ≡ 2 ^ bits → r ≡ moduloOf bits n)) ⌝ }
+// A number modulo m; 0 of what is no number.
+pub fn modulo(n: Number, m: u64) -> u64
+    requires { ⌜ 0 < m ⌝ }
+    ensures { λ r. ⌜ (r < m) × (r ≡ moduloOf m n) ⌝ }
 {
     match n {
-        Number::Decimal(v) => v % power,
-        Number::Minus(v) => (power - v % power) % power,
-        Number::Unsigned(v) => v % power,
+        Number::Decimal(v) => v % m,
+        Number::Minus(v) => (m - v % m) % m,
+        Number::Unsigned(v) => v % m,
         Number::NoNumber => 0,
     }
 }

@@ -76,7 +76,7 @@ pub record ImmediateToken (i : ℕ) (t : List ℕ) : Type 0 where
   pub written : Written t
   pub numeric : isNumber (number t) ≡ true
   pub within : isImmediate (number t) ≡ true
-  pub stored : modulo 12 (number t) ≡ i
+  pub stored : modulo 4096 (number t) ≡ i
 
 module _ (v : ℕ) (h : v < 10 ^ 4) where
   some : 1 ≤ length (decimal v)

@@ -1,24 +1,25 @@
 -- How each answer on a number meets its definition. Assumes nothing.
 use Prim.Native.Nat.{ℕ, zero, suc, _-_, _^_, _≤_, _<_}
 use mathlib.Core.Path.{_≡_, refl, sym, _∙_, ap}
-use mathlib.Core.Bool.{Bool, true, false, cond, _&&_, false≢true}
+use mathlib.Core.Bool.{Bool, true, false, cond, _&&_, _||_, false≢true}
 use mathlib.Core.List.{List, [], _∷_, _++_}
 use native.Mathlib.Nat.{le-trans, pow-le-pow-right}
 use native.Mathlib.Omega.{arith}
 use lib.Dec.{ltb, leb}
 use lib.ListN.{length, take, drop, length-drop, take-append-drop}
 use lib.Seq.{take-all}
-use borrow.Author.Tests.{le-leb, lt-leb}
+use borrow.Author.Tests.{le-leb, lt-leb, ne-eqb}
 use Rattle.text.specs.Bytes.{bytes}
 use Rattle.text.specs.Numerals.{digitValue, allDigits, numeral}
 use Rattle.text.specs.declared.Numeral.{Numeral}
 use Rattle.text.specs.declared.Numeral.the-variants.{NoNumeral}
 use Rattle.source.specs.declared.Number.{Number}
+use Rattle.source.specs.declared.Prefix.{Prefix}
 use Rattle.source.specs.declared.Number.the-variants.{Decimal, Minus, Unsigned, NoNumber}
-use Rattle.source.specs.Numbers.{digitsUpTo, written, decimalDigits, hexadecimalDigits, binaryDigits, unsigned, number}
+use Rattle.source.specs.Numbers.{digitsUpTo, written, decimalDigits, decimalNumber, prefixOf, unsigned, number, isNumber}
 use Rattle.source.specs.Names.{isName}
 use Rattle.text.specs.Same.{same}
-use Rattle.text.proofs.SameLaws.{same-equal}
+use Rattle.text.proofs.SameLaws.{same-equal, front-room}
 use Rattle.text.proofs.Truth.{and-left, and-right}
 
 -- ---- so many digits
@@ -38,31 +39,45 @@ module _ (base most : ℕ) (s : List ℕ) where
 
 -- ---- the ways to write a number
 
--- The rest of a token after its first bytes.
-rest-of : (n : ℕ) (t : List ℕ) → take (length t - n) (drop n t) ≡ drop n t
-rest-of n t = take-all (length t - n) (drop n t) (rw length-drop (omega arith))
+-- Digits are read of the rest of a token after its first bytes.
+rest-read : (base most start : ℕ) (t : List ℕ) (n : Numeral) → n ≡ digitsUpTo base most (take (length t - start) (drop start t)) → n ≡ digitsUpTo base most (drop start t)
+rest-read base most start t n q = q ∙ ap (digitsUpTo base most) (take-all (length t - start) (drop start t) (rw length-drop (omega arith)))
 
-pub is-unsigned : (base most : ℕ) (t : List ℕ) (n : Numeral) → n ≡ digitsUpTo base most (take (length t - 2) (drop 2 t)) → (r : Number) → r ≡ written Unsigned n → r ≡ unsigned base most t
-is-unsigned base most t n q r p = p ∙ ap (written Unsigned) (q ∙ ap (digitsUpTo base most) (rest-of 2 t))
+-- A decimal number, with its sign or without.
+module _ (t : List ℕ) (a : Bool) (minus : a ≡ same (take 1 t) (bytes "-")) (start : ℕ) (after : start ≡ cond a 1 0) (n : Numeral)
+    (q : n ≡ digitsUpTo 10 decimalDigits (take (length t - start) (drop start t))) (r : Number) where
+  pub is-minus : a ≡ true → r ≡ written Minus n → r ≡ decimalNumber t
+  is-minus e p = rw (← minus, e) (p ∙ ap (written Minus) (rw (after, e) at (rest-read 10 decimalDigits start t n q)))
 
-module _ (t : List ℕ) (a : Bool) (minus : a ≡ same (take 1 t) (bytes "-")) where
-  pub is-minus : a ≡ true → (n : Numeral) → n ≡ digitsUpTo 10 10 (take (length t - 1) (drop 1 t)) → (r : Number) → r ≡ written Minus n → r ≡ number t
+  pub is-decimal : a ≡ false → r ≡ written Decimal n → r ≡ decimalNumber t
+  is-decimal e p = rw (← minus, e) (p ∙ ap (written Decimal) (rw (after, e) at (rest-read 10 decimalDigits start t n q)))
+
+-- A sign is within its token.
+pub sign-room : (t : List ℕ) (a : Bool) → a ≡ same (take 1 t) (bytes "-") → (start : ℕ) → start ≡ cond a 1 0 → start ≤ length t
+sign-room t true minus start after = rw after (front-room t (bytes "-") true minus refl)
+sign-room t false minus start after = rw after (omega arith)
+
+module _ (t : List ℕ) (p : Prefix) (is : p ≡ prefixOf t) where
+  -- No prefix, ..
+  pub not-prefixed : p .base ≡ 0 → (r : Number) → r ≡ decimalNumber t → r ≡ number t
   unfolding number
-  is-minus e n q r p = rw (← minus, e) (p ∙ ap (written Minus) (q ∙ ap (digitsUpTo 10 10) (rest-of 1 t)))
+  not-prefixed e r q = rw (← is, e) q
 
-  module _ (e : a ≡ false) (b : Bool) (hexadecimal : b ≡ same (take 2 t) (bytes "0x")) where
-    pub is-hexadecimal : b ≡ true → (r : Number) → r ≡ unsigned 16 hexadecimalDigits t → r ≡ number t
+  module _ (some : p .base ≡ 0 → ⊥) where
+    -- .. or one, after which digits are read.
+    pub prefixed : (n : Numeral) → n ≡ digitsUpTo (p .base) (p .most) (take (length t - 2) (drop 2 t)) → (r : Number) → r ≡ written Unsigned n → r ≡ number t
     unfolding number
-    is-hexadecimal f r p = rw (← minus, e, ← hexadecimal, f) p
+    prefixed n q r e = rw (← is, ne-eqb (p .base) 0 some) (e ∙ ap (written Unsigned) (rest-read (p .base) (p .most) 2 t n q))
 
-    module _ (f : b ≡ false) (c : Bool) (binary : c ≡ same (take 2 t) (bytes "0b")) where
-      pub is-binary : c ≡ true → (r : Number) → r ≡ unsigned 2 binaryDigits t → r ≡ number t
-      unfolding number
-      is-binary g r p = rw (← minus, e, ← hexadecimal, f, ← binary, g) p
-
-      pub is-decimal : c ≡ false → (n : Numeral) → n ≡ digitsUpTo 10 10 t → (r : Number) → r ≡ written Decimal n → r ≡ number t
-      unfolding number
-      is-decimal g n q r p = rw (← minus, e, ← hexadecimal, f, ← binary, g) (p ∙ ap (written Decimal) q)
+    -- It has two bytes, and its digits fit 64 bits.
+    pub prefix-fits : (2 ≤ length t) × ((0 < p .base) × ((p .base ≤ 16) × (p .base ^ p .most ≤ 2 ^ 64)))
+    prefix-fits = go (same (take 2 t) (bytes "0x")) refl (same (take 2 t) (bytes "0b")) refl
+      where
+        go : (x : Bool) → same (take 2 t) (bytes "0x") ≡ x → (b : Bool) → same (take 2 t) (bytes "0b") ≡ b
+            → (2 ≤ length t) × ((0 < p .base) × ((p .base ≤ 16) × (p .base ^ p .most ≤ 2 ^ 64)))
+        go true h b k = let this : p ≡ record { base = 16; most = 8 } = is ∙ rw h in (front-room t (bytes "0x") true (sym h) refl, rw this (omega arith, (omega arith, omega arith)))
+        go false h true k = let this : p ≡ record { base = 2; most = 32 } = is ∙ rw (h, k) in (front-room t (bytes "0b") true (sym k) refl, rw this (omega arith, (omega arith, omega arith)))
+        go false h false k = let this : p ≡ record { base = 0; most = 0 } = is ∙ rw (h, k) in absurd (some (ap (λ (q : Prefix). q .base) this))
 
 -- ---- what decimal digits begin with
 
@@ -81,19 +96,36 @@ no-front front none t e = go (same (take (length front) t) front) refl
     go true begins = absurd (false≢true (sym none ∙ ap (allDigits 10) (sym (same-equal _ _ begins)) ∙ digits-front (length front) t e))
     go false begins = refl
 
--- B5: a token that begins with 0b is neither a decimal number nor a name, so what was accepted before 0b came has the same meaning.
-module _ (t : List ℕ) (begins : same (take 2 t) (bytes "0b") ≡ true) where
-  pub binary-no-decimal : written Decimal (digitsUpTo 10 decimalDigits t) ≡ NoNumber
-  unfolding allDigits
-  binary-no-decimal = go (allDigits 10 t) refl (leb 1 (length t) && leb (length t) decimalDigits)
-    where
-      go : (digits : Bool) → allDigits 10 t ≡ digits → (right : Bool) → written Decimal (cond right (numeral 10 t) NoNumeral) ≡ NoNumber
-      go true is right = absurd (false≢true (sym (no-front (bytes "0b") refl t is) ∙ begins))
-      go false is true = rw is
-      go false is false = refl
+-- ---- B5: what was accepted before 0b came
 
-  pub binary-no-name : isName t ≡ false
+-- A token that begins with 0b is neither a decimal number nor a name.
+module _ (t : List ℕ) (begins : same (take 2 t) (bytes "0b") ≡ true) where
+  whole : t ≡ bytes "0b" ++ drop 2 t
+  whole = sym (take-append-drop 2 t) ∙ ap (λ (u : List ℕ). u ++ drop 2 t) (same-equal _ _ begins)
+
+  binary-no-decimal : decimalNumber t ≡ NoNumber
+  unfolding allDigits same
+  binary-no-decimal = rw whole (go (leb 1 (length (bytes "0b" ++ drop 2 t)) && leb (length (bytes "0b" ++ drop 2 t)) decimalDigits))
+    where
+      go : (right : Bool) → written Decimal (cond right NoNumeral NoNumeral) ≡ NoNumber
+      go true = refl
+      go false = refl
+
+  binary-no-name : isName t ≡ false
   unfolding isName
-  binary-no-name =
-      let whole : t ≡ bytes "0b" ++ drop 2 t = sym (take-append-drop 2 t) ∙ ap (λ (u : List ℕ). u ++ drop 2 t) (same-equal _ _ begins) in
-      rw whole
+  binary-no-name = rw whole
+
+-- The number that a token is by document 01 alone.
+abbrev pub numberBefore : List ℕ → Number
+numberBefore t = cond (same (take 2 t) (bytes "0x")) (unsigned (record { base = 16; most = 8 }) t) (decimalNumber t)
+
+-- What was a number or a label there is the same number, or a label, now.
+pub number-stays : (t : List ℕ) → (isNumber (numberBefore t) || isName t) ≡ true → number t ≡ numberBefore t
+unfolding number
+number-stays t = go (same (take 2 t) (bytes "0x")) refl (same (take 2 t) (bytes "0b")) refl
+  where
+    go : (x : Bool) → same (take 2 t) (bytes "0x") ≡ x → (b : Bool) → same (take 2 t) (bytes "0b") ≡ b
+        → (isNumber (numberBefore t) || isName t) ≡ true → number t ≡ numberBefore t
+    go true h b k e = rw h
+    go false h true k e = absurd (false≢true (rw (h, binary-no-decimal t k, binary-no-name t k) at e))
+    go false h false k e = rw (h, k)

@@ -69,8 +69,9 @@ unfolding number same allDigits value
 no-numbers = refl
 
 -- B1: 1 to 32 binary digits, leading zeros among them; ..
-binary-numbers : map number (bytes "0b1010" ∷ bytes "0b0" ∷ (bytes "0b" ++ replicate 32 49) ∷ (bytes "0b" ++ replicate 31 48 ++ bytes "1") ∷ [])
-    ≡ Unsigned 10 ∷ Unsigned 0 ∷ Unsigned 0xFFFFFFFF ∷ Unsigned 1 ∷ []
+binary-numbers : map number
+    (bytes "0b1010" ∷ bytes "0b0" ∷ bytes "0b10000000000000000001" ∷ (bytes "0b" ++ replicate 32 49) ∷ (bytes "0b" ++ replicate 31 48 ++ bytes "1") ∷ [])
+    ≡ Unsigned 10 ∷ Unsigned 0 ∷ Unsigned 0x80001 ∷ Unsigned 0xFFFFFFFF ∷ Unsigned 1 ∷ []
 unfolding number same allDigits value
 binary-numbers = refl
 
@@ -81,8 +82,8 @@ no-binary-numbers : map number
 unfolding number same allDigits value
 no-binary-numbers = refl
 
--- B2: a small b only. B3: "unsigned", so no sign before it; nor anything else, and no b alone.
-binary-prefix : map (λ (s : String). number (bytes s)) ("0B1" ∷ "-0b1" ∷ "-0b0" ∷ "+0b1" ∷ "b1" ∷ "00b1" ∷ []) ≡ replicate 6 NoNumber
+-- B2: a small b only. B3: "unsigned", so no sign before it. No other prefix.
+binary-prefix : map (λ (s : String). number (bytes s)) ("0B1" ∷ "-0b1" ∷ "-0b0" ∷ "+0b1" ∷ "b1" ∷ "1b1" ∷ "ab1" ∷ "00b1" ∷ []) ≡ replicate 8 NoNumber
 unfolding number same allDigits value
 binary-prefix = refl
 

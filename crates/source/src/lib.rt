@@ -19,6 +19,12 @@ pub enum Number {
     NoNumber,
 }
 
+// What stands before the digits of an unsigned number: the base of the digits, and the most of them; base 0 where nothing does.
+pub struct Prefix {
+    pub base: u64,
+    pub most: usize,
+}
+
 // Where a token stands in a line: its first byte, and the byte after its last.
 pub struct Span {
     pub start: usize,

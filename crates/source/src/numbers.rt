@@ -1,14 +1,15 @@
 // Tokens that are numbers.
 use crate::Number;
+use crate::Prefix;
 use text::Numeral;
 use text::digits::read_digits;
 use text::same::begins_with;
 ghost use mathlib.Core.Path.{_≡_};
+ghost use mathlib.Core.Bool.{cond};
 ghost use Prim.Native.Nat.{_^_, _≤_, _<_};
-ghost use lib.ListN.{length};
 ghost use Rattle.text.specs.Numerals.{DigitValues};
 ghost use Rattle.source.specs.declared.Number.the-variants.{Decimal, Minus, Unsigned};
-ghost use Rattle.source.specs.Numbers.{digitsUpTo, written, unsigned, number, isNumber};
+ghost use Rattle.source.specs.Numbers.{digitsUpTo, written, decimalNumber, prefixOf, number, isNumber};
 
 // The most digits of a number.
 const DECIMAL_DIGITS: usize = 10;
@@ -22,16 +23,13 @@ pub fn read_number(t: &[u8], values: &[u8; 256]) -> Number
     requires { ⌜ DigitValues (now values) ⌝ }
     ensures { λ r. ⌜ r ≡ number (now (t .entry)) ⌝ }
 {
-    if begins_with(t, b"-") {
-        return as_minus(digits_up_to(&t[1..], 10, DECIMAL_DIGITS, values));
+    let p = prefix_of(t);
+    let base = p.base;
+    let most = p.most;
+    if base == 0 {
+        return read_decimal(t, values);
     }
-    if begins_with(t, b"0x") {
-        return read_unsigned(t, 16, HEXADECIMAL_DIGITS, values);
-    }
-    if begins_with(t, b"0b") {
-        return read_unsigned(t, 2, BINARY_DIGITS, values);
-    }
-    as_decimal(digits_up_to(t, 10, DECIMAL_DIGITS, values))
+    as_unsigned(digits_up_to(&t[2..], base, most, values))
 }
 
 // Whether a token was read as a number.
@@ -46,12 +44,47 @@ pub fn is_some(n: Number) -> bool
     }
 }
 
-// Reads digits of a base, 1 to `most` of them, after a prefix of two bytes.
-fn read_unsigned(t: &[u8], base: u64, most: usize, values: &[u8; 256]) -> Number
-    requires { ⌜ (2 ≤ length (now t)) × ((0 < base) × ((base ≤ 16) × ((base ^ most ≤ 2 ^ 64) × DigitValues (now values)))) ⌝ }
-    ensures { λ r. ⌜ r ≡ unsigned base most (now (t .entry)) ⌝ }
+// The prefix of a token.
+fn prefix_of(t: &[u8]) -> Prefix
+    ensures { λ r. ⌜ r ≡ prefixOf (now (t .entry)) ⌝ }
 {
-    as_unsigned(digits_up_to(&t[2..], base, most, values))
+    if begins_with(t, b"0x") {
+        return Prefix {
+            base: 16,
+            most: HEXADECIMAL_DIGITS,
+        };
+    }
+    if begins_with(t, b"0b") {
+        return Prefix {
+            base: 2,
+            most: BINARY_DIGITS,
+        };
+    }
+    Prefix { base: 0, most: 0 }
+}
+
+// The decimal number that a token without a prefix is, if it is one.
+fn read_decimal(t: &[u8], values: &[u8; 256]) -> Number
+    requires { ⌜ DigitValues (now values) ⌝ }
+    ensures { λ r. ⌜ r ≡ decimalNumber (now (t .entry)) ⌝ }
+{
+    let minus = begins_with(t, b"-");
+    let start = sign_length(minus);
+    let n = digits_up_to(&t[start..], 10, DECIMAL_DIGITS, values);
+    if minus {
+        return as_minus(n);
+    }
+    as_decimal(n)
+}
+
+// How many bytes the sign of a number has.
+fn sign_length(minus: bool) -> usize
+    ensures { λ r. ⌜ r ≡ cond minus 1 0 ⌝ }
+{
+    if minus {
+        return 1;
+    }
+    0
 }
 
 // Reads digits of a base, 1 to `most` of them.

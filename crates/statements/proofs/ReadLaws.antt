@@ -75,7 +75,7 @@ module _ {source table values t : List ℕ} {ls : List (List ℕ)} {count r : �
         let among : isAmong (labels ls) t ≡ true = is-among (labels ls) t r (omega arith) here in
         l .valued (u .right) r h k ∙ sym (value-at ls t among ∙ ap (λ (p : ℕ). getD (labelValues 0 ls) p 0) (distinct-place (labels ls) t (u .distinct) r (omega arith) here))
 
-    label-some : (v : ℕ) → v < 2 ^ 12 → (Usual ls → v ≡ valueOf ls t % 2 ^ 12) → ImmediateRead ls t (record { inside = true; defined = true; value = v })
+    label-some : (v : ℕ) → v < 2 ^ 12 → (Usual ls → v ≡ valueOf ls t % 4096) → ImmediateRead ls t (record { inside = true; defined = true; value = v })
     unfolding immediate
     label-some v fits is =
         record {
@@ -92,11 +92,11 @@ module _ {source table values t : List ℕ} {ls : List (List ℕ)} {count r : �
 
     pub label-early : r < length values → ImmediateRead ls t (record { inside = true; defined = true; value = getD values r 0 % 4096 })
     label-early k =
-        label-some (getD values r 0 % 4096) (omega arith) (λ u. let room = l .room in ap (λ (v : ℕ). v % 2 ^ 12) (label-value u (omega arith)))
+        label-some (getD values r 0 % 4096) (omega arith) (λ u. let room = l .room in ap (λ (v : ℕ). v % 4096) (label-value u (omega arith)))
 
 -- A number.
 pub number-read : {all : List (List ℕ)} {t : List ℕ} (n : Number) (inside : Bool) (v : ℕ) → n ≡ number t → isNumber n ≡ true → inside ≡ isImmediate n
-    → v < 2 ^ 12 → v ≡ modulo 12 n → ImmediateRead all t (record { inside = inside; defined = true; value = v })
+    → v < 2 ^ 12 → v ≡ modulo 4096 n → ImmediateRead all t (record { inside = inside; defined = true; value = v })
 unfolding immediate
 number-read n inside v is some within fits low =
     record {
@@ -115,7 +115,7 @@ word-places formed is k h = let size = ap partCount is in formed .placed k (omeg
 
 -- Its address and its data were read.
 pub word-read : {line : List ℕ} (f : Form) → f ≡ Word → (x y : Number) → x ≡ number (part 1 line) → y ≡ number (part 2 line)
-    → (inside : Bool) → inside ≡ (isAddress x && isData y) → (a v : ℕ) → a < 2 ^ 12 → a ≡ modulo 12 x → v ≡ modulo 32 y
+    → (inside : Bool) → inside ≡ (isAddress x && isData y) → (a v : ℕ) → a < 2 ^ 12 → a ≡ modulo 4096 x → v ≡ modulo (2 ^ 32) y
     → (all : List (List ℕ)) → StatementRead all line f (record { known = true; inside = inside; defined = true; word = 0; address = a; value = v })
 unfolding isWordInRange
 word-read f is x y xis yis inside within a v fits low high all =

@@ -1,5 +1,5 @@
 -- The word of an instruction.
-use Prim.Native.Nat.{ℕ, _%_, _^_}
+use Prim.Native.Nat.{ℕ, _%_}
 use mathlib.Core.Bool.{cond}
 use mathlib.Core.List.{List}
 use Rattle.isa.specs.Operations.{operationNames}
@@ -13,7 +13,7 @@ use Rattle.labels.specs.Text.{valueOf}
 
 -- "Immediates .., stored modulo 4096": a number, or a label's value.
 unfoldable pub immediate : (all : List (List ℕ)) → List ℕ → ℕ
-immediate all t = cond (isNumber (number t)) (modulo 12 (number t)) (valueOf all t % 2 ^ 12)
+immediate all t = cond (isNumber (number t)) (modulo 4096 (number t)) (valueOf all t % 4096)
 
 -- The word of an instruction.
 unfoldable pub encoded : (all : List (List ℕ)) → List ℕ → ℕ

@@ -37,9 +37,9 @@ pub record StatementRead (all : List (List ℕ)) (line : List ℕ) (f : Form) (s
   pub defined : s .defined ≡ askedIf (hasCode f) (isUsable (labels all) (operand 4 f line) && isUsable (labels all) (operand 5 f line))
   pub word : hasCode f ≡ true → s .known ≡ true → s .defined ≡ true → Usual all → s .word ≡ encoded all line
   pub word-fits : s .word < 2 ^ 48
-  pub address : hasWord f ≡ true → s .address ≡ modulo 12 (number (part 1 line))
+  pub address : hasWord f ≡ true → s .address ≡ modulo 4096 (number (part 1 line))
   pub address-fits : s .address < 2 ^ 12
-  pub value : hasWord f ≡ true → s .value ≡ modulo 32 (number (part 2 line))
+  pub value : hasWord f ≡ true → s .value ≡ modulo (2 ^ 32) (number (part 2 line))
 
 -- These are the first lines of a text, with n instructions and m labels.
 pub record After (all before : List (List ℕ)) (n m : ℕ) : Type 0 where

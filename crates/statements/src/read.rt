@@ -30,18 +30,18 @@ const IMMEDIATE_BELOW: u64 = 2048;
 
 const IMMEDIATE_LAST: u64 = 4095;
 
-const IMMEDIATE_POWER: u64 = 4096;
+const IMMEDIATE_MODULUS: u64 = 4096;
 
 // Addresses of `.word` run to 4095, its data from -2^31 to 2^32-1.
 const ADDRESS_LAST: u64 = 4095;
 
-const ADDRESS_POWER: u64 = 4096;
+const ADDRESS_MODULUS: u64 = 4096;
 
 const DATA_BELOW: u64 = 0x8000_0000;
 
 const DATA_LAST: u64 = 0xFFFF_FFFF;
 
-const DATA_POWER: u64 = 0x1_0000_0000;
+const DATA_MODULUS: u64 = 0x1_0000_0000;
 
 // What a line of this form says.
 pub fn read_statement(
@@ -164,7 +164,7 @@ fn read_immediate(
     Immediate {
         inside: is_within(n, IMMEDIATE_BELOW, IMMEDIATE_LAST, IMMEDIATE_LAST),
         defined: true,
-        value: modulo(n, IMMEDIATE_POWER) as u32,
+        value: modulo(n, IMMEDIATE_MODULUS) as u32,
     }
 }
 
@@ -214,7 +214,7 @@ fn read_word(line: &[u8], f: Form, places: &[usize], digits: &[u8; 256]) -> Stat
         ),
         defined: true,
         word: 0,
-        address: modulo(address, ADDRESS_POWER) as usize,
-        value: modulo(value, DATA_POWER) as u32,
+        address: modulo(address, ADDRESS_MODULUS) as usize,
+        value: modulo(value, DATA_MODULUS) as u32,
     }
 }

@@ -35,16 +35,16 @@ enum-told : tie.Need-enum-told
 enum-told c = search needs
 
 returns : tie.Need-returns
-returns c = let s = c .before .before .before in (mod-lt _ (s .pre), λ bits e. rw (c .before .n .given .1, ← e))
+returns c = let s = c .before .before .before in (mod-lt _ (s .pre), sym (ap (modulo (s .args .m)) (c .before .n .given .1)))
 
 returns-2 : tie.Need-returns-2
-returns-2 c = let s = c .before .before .before in (mod-lt _ (s .pre), λ bits e. rw (c .before .n2 .given .1, ← e))
+returns-2 c = let s = c .before .before .before in (mod-lt _ (s .pre), sym (ap (modulo (s .args .m)) (c .before .n2 .given .1)))
 
 returns-3 : tie.Need-returns-3
-returns-3 c = let s = c .before .before .before in (mod-lt _ (s .pre), λ bits e. rw (c .before .n3 .given .1, ← e))
+returns-3 c = let s = c .before .before .before in (mod-lt _ (s .pre), sym (ap (modulo (s .args .m)) (c .before .n3 .given .1)))
 
 returns-4 : tie.Need-returns-4
-returns-4 c = (c .before .before .pre, λ bits e. rw (c .enum-told .given .1))
+returns-4 c = let s = c .before .before in (s .pre, sym (ap (modulo (s .args .m)) (c .enum-told .given .1)))
 
 pub modulo-spec : {M : Type 1} → statement M
 modulo-spec =

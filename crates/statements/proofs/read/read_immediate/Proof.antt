@@ -29,7 +29,7 @@ cast-t11 : tie.Need-cast-t11
 cast-t11 c = search needs
 
 returns-2 : tie.Need-returns-2
-returns-2 c = number-read (c .before .before .before .before .read-number .result) (c .before .is-within .result) (c .modulo .result) (c .before .before .before .before .read-number .ensures) (sym (c .before .before .before .is-some .ensures) ∙ not-false _ (c .before .before .if1 .left)) (c .before .is-within .ensures) (c .modulo .ensures .0) (c .modulo .ensures .1 12 refl)
+returns-2 c = number-read (c .before .before .before .before .read-number .result) (c .before .is-within .result) (c .modulo .result) (c .before .before .before .before .read-number .ensures) (sym (c .before .before .before .is-some .ensures) ∙ not-false _ (c .before .before .if1 .left)) (c .before .is-within .ensures) (c .modulo .ensures .0) (c .modulo .ensures .1)
 
 pub read-immediate-spec : {M : Type 1} → statement M
 read-immediate-spec =

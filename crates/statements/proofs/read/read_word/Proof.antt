@@ -67,7 +67,7 @@ returns c =
     word-read (c .before .before .before .before .before .before .before .before .before .before .before .before .before .before .before .args .f) (c .before .before .before .before .before .before .before .before .before .before .before .before .before .before .before .pre .1) (c .before .before .before .before .before .before .before .before .before .read-number .result) (c .before .before .before .before .before .read-number2 .result)
     (c .before .before .before .before .before .before .before .before .before .read-number .ensures ∙ ap number (p 1 (omega arith) .is)) (c .before .before .before .before .before .read-number2 .ensures ∙ ap number (p 2 (omega arith) .is))
     (c .before .before .both .result) (rw (← c .before .before .before .before .is-within .ensures, ← c .before .before .before .is-within2 .ensures) (c .before .before .both .ensures))
-    (c .before .modulo .result) (c .modulo2 .result) (c .before .modulo .ensures .0) (c .before .modulo .ensures .1 12 refl) (c .modulo2 .ensures .1 32 refl)
+    (c .before .modulo .result) (c .modulo2 .result) (c .before .modulo .ensures .0) (c .before .modulo .ensures .1) (c .modulo2 .ensures .1)
 
 pub read-word-spec : {M : Type 1} → statement M
 read-word-spec =

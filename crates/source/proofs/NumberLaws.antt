@@ -44,18 +44,12 @@ rest-read : (base most start : ℕ) (t : List ℕ) (n : Numeral) → n ≡ digit
 rest-read base most start t n q = q ∙ ap (digitsUpTo base most) (take-all (length t - start) (drop start t) (rw length-drop (omega arith)))
 
 -- A decimal number, with its sign or without.
-module _ (t : List ℕ) (a : Bool) (minus : a ≡ same (take 1 t) (bytes "-")) (start : ℕ) (after : start ≡ cond a 1 0) (n : Numeral)
-    (q : n ≡ digitsUpTo 10 decimalDigits (take (length t - start) (drop start t))) (r : Number) where
-  pub is-minus : a ≡ true → r ≡ written Minus n → r ≡ decimalNumber t
-  is-minus e p = rw (← minus, e) (p ∙ ap (written Minus) (rw (after, e) at (rest-read 10 decimalDigits start t n q)))
+module _ (t : List ℕ) (a : Bool) (minus : a ≡ same (take 1 t) (bytes "-")) (n : Numeral) (r : Number) where
+  pub is-minus : a ≡ true → n ≡ digitsUpTo 10 decimalDigits (take (length t - 1) (drop 1 t)) → r ≡ written Minus n → r ≡ decimalNumber t
+  is-minus e q p = rw (← minus, e) (p ∙ ap (written Minus) (rest-read 10 decimalDigits 1 t n q))
 
-  pub is-decimal : a ≡ false → r ≡ written Decimal n → r ≡ decimalNumber t
-  is-decimal e p = rw (← minus, e) (p ∙ ap (written Decimal) (rw (after, e) at (rest-read 10 decimalDigits start t n q)))
-
--- A sign is within its token.
-pub sign-room : (t : List ℕ) (a : Bool) → a ≡ same (take 1 t) (bytes "-") → (start : ℕ) → start ≡ cond a 1 0 → start ≤ length t
-sign-room t true minus start after = rw after (front-room t (bytes "-") true minus refl)
-sign-room t false minus start after = rw after (omega arith)
+  pub is-decimal : a ≡ false → n ≡ digitsUpTo 10 decimalDigits t → r ≡ written Decimal n → r ≡ decimalNumber t
+  is-decimal e q p = rw (← minus, e) (p ∙ ap (written Decimal) q)
 
 module _ (t : List ℕ) (p : Prefix) (is : p ≡ prefixOf t) where
   -- No prefix, ..

@@ -5,7 +5,6 @@ use text::Numeral;
 use text::digits::read_digits;
 use text::same::begins_with;
 ghost use mathlib.Core.Path.{_≡_};
-ghost use mathlib.Core.Bool.{cond};
 ghost use Prim.Native.Nat.{_^_, _≤_, _<_};
 ghost use Rattle.text.specs.Numerals.{DigitValues};
 ghost use Rattle.source.specs.declared.Number.the-variants.{Decimal, Minus, Unsigned};
@@ -68,23 +67,10 @@ fn read_decimal(t: &[u8], values: &[u8; 256]) -> Number
     requires { ⌜ DigitValues (now values) ⌝ }
     ensures { λ r. ⌜ r ≡ decimalNumber (now (t .entry)) ⌝ }
 {
-    let minus = begins_with(t, b"-");
-    let start = sign_length(minus);
-    let n = digits_up_to(&t[start..], 10, DECIMAL_DIGITS, values);
-    if minus {
-        return as_minus(n);
+    if begins_with(t, b"-") {
+        return as_minus(digits_up_to(&t[1..], 10, DECIMAL_DIGITS, values));
     }
-    as_decimal(n)
-}
-
-// How many bytes the sign of a number has.
-fn sign_length(minus: bool) -> usize
-    ensures { λ r. ⌜ r ≡ cond minus 1 0 ⌝ }
-{
-    if minus {
-        return 1;
-    }
-    0
+    as_decimal(digits_up_to(t, 10, DECIMAL_DIGITS, values))
 }
 
 // Reads digits of a base, 1 to `most` of them.

@@ -16,7 +16,7 @@ use Rattle.text.specs.declared.Numeral.the-variants.{NoNumeral}
 use Rattle.source.specs.declared.Number.{Number}
 use Rattle.source.specs.declared.Prefix.{Prefix}
 use Rattle.source.specs.declared.Number.the-variants.{Decimal, Minus, Unsigned, NoNumber}
-use Rattle.source.specs.Numbers.{digitsUpTo, written, decimalDigits, decimalNumber, prefixOf, unsigned, number, isNumber}
+use Rattle.source.specs.Numbers.{digitsUpTo, written, decimalDigits, decimalNumber, prefix, prefixOf, unsigned, number, isNumber}
 use Rattle.source.specs.Names.{isName}
 use Rattle.text.specs.Same.{same}
 use Rattle.text.proofs.SameLaws.{same-equal, front-room}
@@ -51,6 +51,13 @@ module _ (t : List ℕ) (a : Bool) (minus : a ≡ same (take 1 t) (bytes "-")) (
   pub is-decimal : a ≡ false → n ≡ digitsUpTo 10 decimalDigits t → r ≡ written Decimal n → r ≡ decimalNumber t
   is-decimal e q p = rw (← minus, e) (p ∙ ap (written Decimal) q)
 
+-- A prefix has two bytes, and its digits fit 64 bits.
+pub record PrefixFits (p : Prefix) (t : List ℕ) : Type 0 where
+  pub room : 2 ≤ length t
+  pub some : 0 < p .base
+  pub base : p .base ≤ 16
+  pub fits : p .base ^ p .most ≤ 2 ^ 64
+
 module _ (t : List ℕ) (p : Prefix) (is : p ≡ prefixOf t) where
   -- No prefix, ..
   pub not-prefixed : p .base ≡ 0 → (r : Number) → r ≡ decimalNumber t → r ≡ number t
@@ -63,18 +70,21 @@ module _ (t : List ℕ) (p : Prefix) (is : p ≡ prefixOf t) where
     unfolding number
     prefixed n q r e = rw (← is, ne-eqb (p .base) 0 some) (e ∙ ap (written Unsigned) (rest-read (p .base) (p .most) 2 t n q))
 
-    -- It has two bytes, and its digits fit 64 bits.
-    pub prefix-fits : (2 ≤ length t) × ((0 < p .base) × ((p .base ≤ 16) × (p .base ^ p .most ≤ 2 ^ 64)))
+    pub prefix-fits : PrefixFits p t
     prefix-fits = go (same (take 2 t) (bytes "0x")) refl (same (take 2 t) (bytes "0b")) refl
       where
-        go : (x : Bool) → same (take 2 t) (bytes "0x") ≡ x → (b : Bool) → same (take 2 t) (bytes "0b") ≡ b
-            → (2 ≤ length t) × ((0 < p .base) × ((p .base ≤ 16) × (p .base ^ p .most ≤ 2 ^ 64)))
-        go true h b k = let this : p ≡ record { base = 16; most = 8 } = is ∙ rw h in (front-room t (bytes "0x") true (sym h) refl, rw this (omega arith, (omega arith, omega arith)))
-        go false h true k = let this : p ≡ record { base = 2; most = 32 } = is ∙ rw (h, k) in (front-room t (bytes "0b") true (sym k) refl, rw this (omega arith, (omega arith, omega arith)))
-        go false h false k = let this : p ≡ record { base = 0; most = 0 } = is ∙ rw (h, k) in absurd (some (ap (λ (q : Prefix). q .base) this))
+        go : (x : Bool) → same (take 2 t) (bytes "0x") ≡ x → (b : Bool) → same (take 2 t) (bytes "0b") ≡ b → PrefixFits p t
+        go true h b k =
+            let this : p ≡ prefix 16 8 = is ∙ rw h in
+            rw this (record { room = front-room t (bytes "0x") true (sym h) refl; some = omega arith; base = omega arith; fits = omega arith })
+        go false h true k =
+            let this : p ≡ prefix 2 32 = is ∙ rw (h, k) in
+            rw this (record { room = front-room t (bytes "0b") true (sym k) refl; some = omega arith; base = omega arith; fits = omega arith })
+        go false h false k = let this : p ≡ prefix 0 0 = is ∙ rw (h, k) in absurd (some (ap (λ (q : Prefix). q .base) this))
 
 -- ---- what decimal digits begin with
 
+-- The first of decimal digits are decimal digits, ..
 digits-front : (n : ℕ) (t : List ℕ) → allDigits 10 t ≡ true → allDigits 10 (take n t) ≡ true
 unfolding allDigits
 digits-front zero t e = refl
@@ -82,7 +92,7 @@ digits-front (suc n) [] e = refl
 digits-front (suc n) (c ∷ t) e =
     rw (and-left (ltb (digitValue c) 10) (allDigits 10 t) e, digits-front n t (and-right (ltb (digitValue c) 10) (allDigits 10 t) e))
 
--- They begin with digits alone, so with no `-`, 0x or 0b.
+-- .. so they begin with no `-`, 0x or 0b.
 pub no-front : (front : List ℕ) → allDigits 10 front ≡ false → (t : List ℕ) → allDigits 10 t ≡ true → same (take (length front) t) front ≡ false
 no-front front none t e = go (same (take (length front) t) front) refl
   where
@@ -111,7 +121,7 @@ module _ (t : List ℕ) (begins : same (take 2 t) (bytes "0b") ≡ true) where
 
 -- The number that a token is by document 01 alone.
 abbrev pub numberBefore : List ℕ → Number
-numberBefore t = cond (same (take 2 t) (bytes "0x")) (unsigned (record { base = 16; most = 8 }) t) (decimalNumber t)
+numberBefore t = cond (same (take 2 t) (bytes "0x")) (unsigned (prefix 16 8) t) (decimalNumber t)
 
 -- What was a number or a label there is the same number, or a label, now.
 pub number-stays : (t : List ℕ) → (isNumber (numberBefore t) || isName t) ≡ true → number t ≡ numberBefore t

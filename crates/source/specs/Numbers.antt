@@ -32,16 +32,18 @@ decimalNumber t =
     cond (same (take 1 t) (bytes "-")) (written Minus (digitsUpTo 10 decimalDigits (drop 1 t)))
     (written Decimal (digitsUpTo 10 decimalDigits t))
 
--- "or 0x and 1 to 8 digits of either case"; "also be 0b and 1 to 32 binary digits, unsigned": the prefix of a token, base 0 where it has none.
-abbrev prefix : (base most : ℕ) → Prefix
+-- A prefix of two bytes: the base of the digits after it, and the most of them.
+abbrev pub prefix : (base most : ℕ) → Prefix
 prefix base most = record { base = base; most = most }
 
+-- "or 0x and 1 to 8 digits of either case"; "also be 0b and 1 to 32 binary digits": the prefix of a token, base 0 where it has none.
 abbrev pub prefixOf : List ℕ → Prefix
 prefixOf t =
     cond (same (take 2 t) (bytes "0x")) (prefix 16 8)
     (cond (same (take 2 t) (bytes "0b")) (prefix 2 32)
     (prefix 0 0))
 
+-- "unsigned"
 abbrev pub unsigned : Prefix → List ℕ → Number
 unsigned p t = written Unsigned (digitsUpTo (p .base) (p .most) (drop 2 t))
 

@@ -14,16 +14,16 @@ returns : tie.Need-returns
 returns c = not-prefixed (c .before .before .before .before .args .t .now) (c .before .before .prefix-of .result) (c .before .before .prefix-of .ensures) (c .before .if1 .taken) (c .read-decimal .result) (c .read-decimal .ensures)
 
 sub-digits-up-to : tie.Need-sub-digits-up-to
-sub-digits-up-to c = prefix-fits (c .before .before .before .args .t .now) (c .before .prefix-of .result) (c .before .prefix-of .ensures) (c .if1 .left) .0
+sub-digits-up-to c = prefix-fits (c .before .before .before .args .t .now) (c .before .prefix-of .result) (c .before .prefix-of .ensures) (c .if1 .left) .room
 
 part-digits-up-to-start : tie.Need-part-digits-up-to-start
-part-digits-up-to-start c = let room = prefix-fits (c .before .before .before .args .t .now) (c .before .prefix-of .result) (c .before .prefix-of .ensures) (c .if1 .left) .0 in search (needs, room)
+part-digits-up-to-start c = let room = prefix-fits (c .before .before .before .args .t .now) (c .before .prefix-of .result) (c .before .prefix-of .ensures) (c .if1 .left) .room in search (needs, room)
 
 part-digits-up-to-end : tie.Need-part-digits-up-to-end
 part-digits-up-to-end c = search needs
 
 digits-up-to-requires : tie.Need-digits-up-to-requires
-digits-up-to-requires c κs = let f = prefix-fits (c .before .before .before .before .args .t .now) (c .before .before .prefix-of .result) (c .before .before .prefix-of .ensures) (c .before .if1 .left) .1 in (f .0, (f .1 .0, (f .1 .1, c .before .before .before .before .pre)))
+digits-up-to-requires c κs = let f = prefix-fits (c .before .before .before .before .args .t .now) (c .before .before .prefix-of .result) (c .before .before .prefix-of .ensures) (c .before .if1 .left) in (f .some, (f .base, (f .fits, c .before .before .before .before .pre)))
 
 as-unsigned-requires : tie.Need-as-unsigned-requires
 as-unsigned-requires c κs = search needs

@@ -114,6 +114,6 @@ fn put_parts(text: &mut [u8], at: usize) -> usize
     put_if_room(
         text,
         number_at,
-        b"  number     decimal, as 12 or -3; hexadecimal, as 0x1F; or binary, as 0b1010\n             (10, 8 and 32 digits at most; - before a decimal alone)\n\n",
+        b"  number     decimal, as 12 or -3; hexadecimal, as 0x1F; or binary, as 0b1010\n             (10, 8 and 32 digits at most; only a decimal may have a -)\n\n",
     )
 }

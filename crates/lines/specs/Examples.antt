@@ -1,4 +1,4 @@
--- Lines and their forms, computed: the decided open points A2 to A15.
+-- Lines and their forms, computed: the decided open points A2 to A15; ranges, and what is stored of a number.
 use Prim.Native.Nat.{ℕ}
 use Prim.Native.String.{String}
 use mathlib.Core.Path.{_≡_, refl}

@@ -4,7 +4,7 @@ ghost use mathlib.Core.Path.{_≡_};
 ghost use Prim.Native.Nat.{_<_};
 ghost use Rattle.lines.specs.Ranges.{isWithin, modulo as moduloOf};
 
-// Whether a number is at least -below and, a decimal, at most `decimal` or, of another form, at most `other`; yes of what is no number.
+// Whether a number is at least -below and, a decimal, at most `decimal` or, of another form, at most `other`; true of what is no number.
 pub fn is_within(n: Number, below: u64, decimal: u64, other: u64) -> bool
     ensures { λ r. ⌜ r ≡ isWithin below decimal other n ⌝ }
 {

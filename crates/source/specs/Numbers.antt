@@ -32,7 +32,7 @@ decimalNumber t =
     cond (same (take 1 t) (bytes "-")) (written Minus (digitsUpTo 10 decimalDigits (drop 1 t)))
     (written Decimal (digitsUpTo 10 decimalDigits t))
 
--- A prefix of two bytes: the base of the digits after it, and the most of them.
+-- A prefix, of two bytes: the base of the digits after it, and how many there may be.
 abbrev pub prefix : (base most : ℕ) → Prefix
 prefix base most = record { base = base; most = most }
 

@@ -19,7 +19,7 @@ pub enum Number {
     NoNumber,
 }
 
-// What stands before the digits of an unsigned number: the base of the digits, and the most of them; base 0 where nothing does.
+// The prefix of a token: the base of the digits after it, and how many there may be; base 0 where a token has none.
 pub struct Prefix {
     pub base: u64,
     pub most: usize,

@@ -1,4 +1,4 @@
-//! The SIMP lab, written a second time from documents 01, 02 and 003 and the open points alone.
+//! The SIMP lab, written a second time from the papers (documents 01 and 003, and what is built of document 02) and the open points alone.
 //!
 //! This crate is the other side of differential tests and the source of expected outputs.
 //! It follows document 01 in its words and its order. It is plain rather than fast.

@@ -63,7 +63,7 @@ plain-digits (c ∷ s) e =
 module _ (s : List ℕ) (some : 1 ≤ length s) (few : length s ≤ 10) (e : allDigits 10 s ≡ true) where
   number-digits : number s ≡ Decimal (value 10 s)
   unfolding number allDigits
-  number-digits = rw (no-front (bytes "-") refl s e, no-front (bytes "0x") refl s e, no-front (bytes "0b") refl s e, le-leb 1 (length s) some, le-leb (length s) 10 few, e)
+  number-digits = rw (no-front 10 (bytes "-") refl s e, no-front 10 (bytes "0x") refl s e, no-front 10 (bytes "0b") refl s e, le-leb 1 (length s) some, le-leb (length s) 10 few, e)
 
   number-minus : number (bytes "-" ++ s) ≡ Minus (value 10 s)
   unfolding number same

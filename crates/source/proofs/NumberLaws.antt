@@ -82,23 +82,24 @@ module _ (t : List ℕ) (p : Prefix) (is : p ≡ prefixOf t) where
             rw this (record { room = front-room t (bytes "0b") true (sym k) refl; some = omega arith; base = omega arith; fits = omega arith })
         go false h false k = let this : p ≡ prefix 0 0 = is ∙ rw (h, k) in absurd (some (ap (λ (q : Prefix). q .base) this))
 
--- ---- what decimal digits begin with
+-- ---- what digits of a base begin with
 
--- The first of decimal digits are decimal digits, ..
-digits-front : (n : ℕ) (t : List ℕ) → allDigits 10 t ≡ true → allDigits 10 (take n t) ≡ true
-unfolding allDigits
-digits-front zero t e = refl
-digits-front (suc n) [] e = refl
-digits-front (suc n) (c ∷ t) e =
-    rw (and-left (ltb (digitValue c) 10) (allDigits 10 t) e, digits-front n t (and-right (ltb (digitValue c) 10) (allDigits 10 t) e))
+module _ (b : ℕ) where
+  -- The first of them are digits, ..
+  digits-front : (n : ℕ) (t : List ℕ) → allDigits b t ≡ true → allDigits b (take n t) ≡ true
+  unfolding allDigits
+  digits-front zero t e = refl
+  digits-front (suc n) [] e = refl
+  digits-front (suc n) (c ∷ t) e =
+      rw (and-left (ltb (digitValue c) b) (allDigits b t) e, digits-front n t (and-right (ltb (digitValue c) b) (allDigits b t) e))
 
--- .. so they begin with no `-`, 0x or 0b.
-pub no-front : (front : List ℕ) → allDigits 10 front ≡ false → (t : List ℕ) → allDigits 10 t ≡ true → same (take (length front) t) front ≡ false
-no-front front none t e = go (same (take (length front) t) front) refl
-  where
-    go : (b : Bool) → same (take (length front) t) front ≡ b → b ≡ false
-    go true begins = absurd (false≢true (sym none ∙ ap (allDigits 10) (sym (same-equal _ _ begins)) ∙ digits-front (length front) t e))
-    go false begins = refl
+  -- .. so they begin with nothing that has another byte: decimal ones with no `-`, 0x or 0b.
+  pub no-front : (front : List ℕ) → allDigits b front ≡ false → (t : List ℕ) → allDigits b t ≡ true → same (take (length front) t) front ≡ false
+  no-front front none t e = go (same (take (length front) t) front) refl
+    where
+      go : (begins : Bool) → same (take (length front) t) front ≡ begins → begins ≡ false
+      go true is = absurd (false≢true (sym none ∙ ap (allDigits b) (sym (same-equal _ _ is)) ∙ digits-front (length front) t e))
+      go false is = refl
 
 -- ---- B5: what was accepted before 0b came
 

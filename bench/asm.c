@@ -1,5 +1,5 @@
 // Times the proved assembler and lister beside an assembler and a lister in C, on full programs and on the worst texts that we could think of, and
-// compares their answers, images, data memories and listings on these and on random texts. The C side is written for speed from documents 01 and 02 alone: byte
+// compares their answers, images, data memories and listings on these and on random texts. The C side is written for speed from the papers alone: byte
 // classes in a table, each line split once, names and labels by hashing, one buffer.
 #include <stdint.h>
 #include <stdio.h>

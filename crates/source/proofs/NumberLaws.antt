@@ -20,7 +20,7 @@ use Rattle.source.specs.Numbers.{digitsUpTo, written, decimalDigits, dec
 use Rattle.source.specs.Names.{isName}
 use Rattle.text.specs.Same.{same}
 use Rattle.text.proofs.SameLaws.{same-equal, front-room}
-use Rattle.text.proofs.Truth.{and-left, and-right}
+use Rattle.text.proofs.Truth.{and-left, and-right, either}
 
 -- ---- so many digits
 
@@ -110,11 +110,9 @@ module _ (t : List ℕ) (begins : same (take 2 t) (bytes "0b") ≡ true) where
 
   binary-no-decimal : decimalNumber t ≡ NoNumber
   unfolding allDigits same
-  binary-no-decimal = rw whole (go (leb 1 (length (bytes "0b" ++ drop 2 t)) && leb (length (bytes "0b" ++ drop 2 t)) decimalDigits))
-    where
-      go : (right : Bool) → written Decimal (cond right NoNumeral NoNumeral) ≡ NoNumber
-      go true = refl
-      go false = refl
+  binary-no-decimal =
+      rw whole
+      (either (λ (n : Numeral). written Decimal n ≡ NoNumber) (leb 1 (length (bytes "0b" ++ drop 2 t)) && leb (length (bytes "0b" ++ drop 2 t)) decimalDigits) refl refl)
 
   binary-no-name : isName t ≡ false
   unfolding isName

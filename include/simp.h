@@ -19,6 +19,9 @@
  *   14  the saved record is not of edition 1
  *   15  the text does not fit the lent bytes
  *   16  a word has an opcode above 21
+ *   17  a line of Intel HEX has a wrong form, digit or checksum, or is an end record with data or with text after it
+ *   18  a record of Intel HEX is of another type than 00 and 01, or the end record is missing (the line after the last)
+ *   19  a record of Intel HEX has a byte past the memory, or a first address that is not above the last byte named before it
  *
  * A function that refuses leaves every lent memory as it was; simp_load and simp_run say what becomes of the record and of the report then. A place
  * and a count are written in both cases: `place` is the line, from 1, or the listed word, from 0, that is refused, and 0 where it is neither; a count is 0
@@ -78,6 +81,21 @@ uint32_t simp_write_disk(const uint32_t *disk, size_t disk_len, uint64_t first, 
 /* Writes a frame of 65,536 bytes as text, 2 hexadecimal digits and an LF for each byte: 196,608 bytes at the front of `text`, which may be longer.
  * Writes these and `count`, which is how many. Returns 0, 1 or 15. */
 uint32_t simp_write_frame(const uint8_t *frame, size_t frame_len, uint8_t *text, size_t text_len, uint64_t *count);
+
+/* Reads Intel HEX into a data memory of 4,096 words. Word n is bytes 4n to 4n+3, most significant first; records of types 00 and 01, digits of either
+ * case, an LF or CR LF after each line, which the last may lack; addresses rise, and bytes that no record names become 0. Writes the memory and `place`.
+ * Returns 0, 1, 17, 18 or 19. */
+uint32_t simp_read_hex_data(const uint8_t *text, size_t text_len, uint32_t *memory, size_t memory_len, uint64_t *place);
+
+/* Reads Intel HEX into a disk of 16,384 words, 65,536 bytes, in the same way. Writes the disk and `place`. Returns 0, 1, 17, 18 or 19. */
+uint32_t simp_read_hex_disk(const uint8_t *text, size_t text_len, uint32_t *disk, size_t disk_len, uint64_t *place);
+
+/* Writes a data memory of 4,096 words as Intel HEX: a record of 16 bytes for each four words, in capitals, then `:00000001FF`, an LF after each line:
+ * 45,068 bytes at the front of `text`, which may be longer. Writes these and `count`, which is how many. Returns 0, 1 or 15. */
+uint32_t simp_write_hex_data(const uint32_t *memory, size_t memory_len, uint8_t *text, size_t text_len, uint64_t *count);
+
+/* Writes a disk of 16,384 words as Intel HEX in the same way: 180,236 bytes. Returns 0, 1 or 15. */
+uint32_t simp_write_hex_disk(const uint32_t *disk, size_t disk_len, uint8_t *text, size_t text_len, uint64_t *count);
 
 /* Assembles a text of at most 262,144 bytes into an image of 4,096 words and a data memory of 4,096 words; what the text does not set becomes 0.
  * Writes the image, the memory and `place`. Returns 0 to 8. It needs about 1.5 MB of stack. */

@@ -56,7 +56,7 @@ face-record numbers bytes sent into after r s size sound room saves size′ load
 reads-back : (k : ℕ) (isWritten : Bool) (isRead : ℕ → Bool) (m back : List ℕ) → isWritten ≡ true → ((n : ℕ) → n ≡ length m → isRead n ≡ true)
     → map (λ word. word % 16 ^ k) m ≡ back → FaceReadsBack k isWritten isRead m back
 reads-back k isWritten isRead m back right right′ e out sent into after r count s place room size w p =
-    let wrote = text-written k m isWritten (length out) right room in
+    let wrote = text-written (fileText k m) isWritten (length out) right room in
     let counted : count ≡ length (fileText k m) = w .byte-count ∙ ap (λ (o : Outcome). o .count) wrote in
     let front : take count sent ≡ fileText k m = rw (counted, w .bytes, wrote, put-front out (fileText k m) room) (take-append-seam (fileText k m) _) in
     let q = rw front at p in

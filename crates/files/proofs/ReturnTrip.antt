@@ -53,28 +53,28 @@ written-values : (k : ℕ) (ws : List ℕ) → map (value 16) (map (digits 16 k)
 written-values k [] = refl
 written-values k (w ∷ ws) = rw (value-written 16 (omega arith) (omega arith) k w, written-values k ws)
 
--- ---- over the digit count
+-- ---- a text that is written
 
-module _ (k : ℕ) (m : List ℕ) where
+module _ (file : List ℕ) where
   -- Writing succeeds where there is room, ..
-  pub text-written : (isRight : Bool) (room : ℕ) → isRight ≡ true → length (fileText k m) ≤ room → writeOutcome isRight (fileText k m) room ≡ accepted (length (fileText k m))
+  pub text-written : (isRight : Bool) (room : ℕ) → isRight ≡ true → length file ≤ room → writeOutcome isRight file room ≡ accepted (length file)
   unfolding writeOutcome
-  text-written isRight room right fits = rw (right, le-leb (length (fileText k m)) room fits)
+  text-written isRight room right fits = rw (right, le-leb (length file) room fits)
 
   -- .. the text stands at the front, and what stood after it still does.
-  pub writing : (isRight : Bool) (out : List ℕ) (w : Written) (sent : List ℕ) → isRight ≡ true → length (fileText k m) ≤ length out
-      → TextWritten isRight (fileText k m) out w sent
-      → (writtenOutcome w ≡ accepted (length (fileText k m)))
-      × (take (length (fileText k m)) sent ≡ fileText k m)
-      × (drop (length (fileText k m)) sent ≡ drop (length (fileText k m)) out)
+  pub writing : (isRight : Bool) (out : List ℕ) (w : Written) (sent : List ℕ) → isRight ≡ true → length file ≤ length out → TextWritten isRight file out w sent
+      → (writtenOutcome w ≡ accepted (length file)) × (take (length file) sent ≡ file) × (drop (length file) sent ≡ drop (length file) out)
   writing isRight out w sent right room p =
       let outcome = text-written isRight (length out) right room in
-      let front = rw outcome at (p .bytes) ∙ put-front out (fileText k m) room in (
+      let front = rw outcome at (p .bytes) ∙ put-front out file room in (
         p .answer ∙ outcome,
         rw (front, take-append-seam),
         rw (front, drop-append-seam),
       )
 
+-- ---- over the digit count
+
+module _ (k : ℕ) (m : List ℕ) where
   -- Reading the text succeeds, ..
   pub text-read : (isRight : ℕ → Bool) (n : ℕ) → isRight n ≡ true → n ≡ length m → readOutcome k isRight n (fileText k m) ≡ accepted 0
   unfolding readOutcome linesOutcome
@@ -105,7 +105,7 @@ module _ (k : ℕ) (m : List ℕ) where
       → MemoryRead k isRight′ (take (length (fileText k m)) sent) d r after
       → (writtenOutcome w ≡ accepted (length (fileText k m))) × (fileReadOutcome r ≡ accepted 0) × (after ≡ map (λ word. word % 16 ^ k) m)
   return-trip isRight isRight′ out d w sent r after right right′ room size p q =
-      let wrote = writing isRight out w sent right room p in
+      let wrote = writing (fileText k m) isRight out w sent right room p in
       let back = reading isRight′ d r after right′ size (rw (wrote .1) at q) in
       (wrote .0, back .0, back .1)
 

@@ -15,6 +15,8 @@ pub use read::read_data;
 pub use read::read_disk;
 pub use read::read_frame;
 pub use read::read_image;
+pub use sizes::DATA_WORDS;
+pub use sizes::DISK_WORDS;
 pub use sizes::WORD_DIGITS;
 pub use write::write_data;
 pub use write::write_disk;

@@ -6,7 +6,7 @@ use mathlib.Core.List.{List, map}
 use lib.ListN.{length}
 use borrow.Author.Tests.{eq-eqb}
 use Rattle.text.proofs.RangeLaws.{below-mod, below-part}
-use Rattle.files.specs.MemoryFile.{sectorsOf}
+use Rattle.files.specs.MemoryFile.{fileText, sectorsOf}
 use Rattle.files.proofs.SizeLaws.{length-sectors, is-part}
 use Rattle.files.proofs.ReturnTrip.{writing, return-trip}
 use Rattle.saved.proofs.TripLaws.{save-accepts, trip}
@@ -23,7 +23,7 @@ record-returns r bytes sent a l sound size p q =
 reads-back : (k : ℕ) (isWritten : Bool) (isRead : ℕ → Bool) (m back : List ℕ) → isWritten ≡ true → ((n : ℕ) → n ≡ length m → isRead n ≡ true)
     → map (λ word. word % 16 ^ k) m ≡ back → ReadsBack k isWritten isRead m back
 reads-back k isWritten isRead m back right right′ e out sent into after w r room size p q =
-    let wrote = writing k m isWritten out w sent right room p in
+    let wrote = writing (fileText k m) isWritten out w sent right room p in
     let is = return-trip k m isWritten isRead out into w sent r after right (right′ (length into) size) room size p (rw (wrote .0) at q) in
     (is .0, is .1, is .2 ∙ e)
 

@@ -119,7 +119,7 @@ module _ (w : Standing) (g : Good w) where
   wrote : (k : ℕ) (m space : List ℕ) (isRight : Bool) → isRight ≡ true → length m * (k + 1) ≤ length space
       → fileWrites isRight (fileText k m) (length space) .number ≡ 0
   wrote k m space isRight right room =
-      ap (λ (t : Outcome). t .number) (text-written k m isRight (length space) right (rw (length-text k m) room))
+      ap (λ (t : Outcome). t .number) (text-written (fileText k m) isRight (length space) right (rw (length-text k m) room))
 
   -- "With right lent lengths and room for the text no such save, write .. is refused".
   good-room : (k : Kind) (space : List ℕ) → Room k space → writeOutcome k (part k w) space .number ≡ 0

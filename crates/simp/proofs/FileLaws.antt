@@ -9,7 +9,10 @@ use Rattle.files.specs.declared.CyclesRead.{CyclesRead}
 use Rattle.files.specs.declared.Written.{Written}
 use Rattle.files.specs.Answers.{fileReadOutcome, cyclesReadOutcome, writtenOutcome}
 use Rattle.files.specs.Promises.{MemoryRead, Irq2Read, TextWritten}
-use Rattle.simp.specs.Files.{Reads, ReadsCycles, Writes}
+use Rattle.intel_hex.specs.declared.HexRead.{HexRead}
+use Rattle.intel_hex.specs.Answers.{hexReadOutcome}
+use Rattle.intel_hex.specs.Promises.{HexFileRead}
+use Rattle.simp.specs.Files.{Reads, ReadsCycles, ReadsHex, Writes}
 
 pub reads : {k : ℕ} {isRight : ℕ → Bool} {text memory : List ℕ} {a : FileRead} {after : List ℕ} {r : Outcome} → MemoryRead k isRight text memory a after → r ≡ fileReadOutcome a
     → Reads k isRight text memory (r .number) after (r .place)
@@ -37,4 +40,13 @@ writes p t =
       number = ap (λ (x : Outcome). x .number) (t ∙ p .answer);
       byte-count = ap (λ (x : Outcome). x .count) (t ∙ p .answer);
       bytes = p .bytes;
+    }
+
+pub reads-hex : {size : ℕ} {text memory : List ℕ} {a : HexRead} {after : List ℕ} {r : Outcome} → HexFileRead size text memory a after → r ≡ hexReadOutcome a
+    → ReadsHex size text memory (r .number) after (r .place)
+reads-hex p t =
+    record {
+      number = ap (λ (x : Outcome). x .number) (t ∙ p .answer);
+      line = ap (λ (x : Outcome). x .place) (t ∙ p .answer);
+      words = p .words-are;
     }

@@ -9,6 +9,7 @@ use Rattle.text.specs.Lines.{lines}
 use Rattle.text.specs.Place.{put}
 use Rattle.files.specs.MemoryFile.{readOutcome, writeOutcome, fileWords}
 use Rattle.files.specs.Irq2File.{irq2Outcome, fileCycles}
+use Rattle.intel_hex.specs.Reading.{hexOutcome, hexWords}
 
 -- A reader of files with k digits a line returns r; `isRight` asks the length of the memory that it fills.
 pub record Reads (k : ℕ) (isRight : ℕ → Bool) (text memory : List ℕ) (r : ℕ) (memoryAfter : List ℕ) (place : ℕ) : Type 0 where
@@ -28,3 +29,9 @@ pub record Writes (isRight : Bool) (file text : List ℕ) (r : ℕ) (textAfter :
   pub number : r ≡ writeOutcome isRight file (length text) .number
   pub byte-count : count ≡ writeOutcome isRight file (length text) .count
   pub bytes : textAfter ≡ unlessRefused (writeOutcome isRight file (length text)) (put text 0 file) text
+
+-- A reader of Intel HEX returns r; the memory that it fills is to have so many words.
+pub record ReadsHex (size : ℕ) (text memory : List ℕ) (r : ℕ) (memoryAfter : List ℕ) (place : ℕ) : Type 0 where
+  pub number : r ≡ hexOutcome size (length memory) text .number
+  pub line : place ≡ hexOutcome size (length memory) text .place
+  pub words : memoryAfter ≡ unlessRefused (hexOutcome size (length memory) text) (hexWords (length memory) text) memory

@@ -1,6 +1,7 @@
 // The C face of the lab: each call returns 0 or document 01's number, and writes the place and the counts, 0 where document 01 says 0. What each
 // promises stands in specs/; include/simp.h is its header.
 mod assembly;
+mod hex;
 mod memory_files;
 mod numbers;
 mod records;
@@ -8,6 +9,10 @@ mod runs;
 
 pub use assembly::simp_assemble;
 pub use assembly::simp_list;
+pub use hex::simp_read_hex_data;
+pub use hex::simp_read_hex_disk;
+pub use hex::simp_write_hex_data;
+pub use hex::simp_write_hex_disk;
 pub use memory_files::simp_read_data;
 pub use memory_files::simp_read_disk;
 pub use memory_files::simp_read_frame;

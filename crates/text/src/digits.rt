@@ -140,7 +140,7 @@ pub fn read_digits(s: &[u8], base: u64, values: &[u8; 256]) -> Numeral
 }
 
 // What the byte at i is worth as a digit.
-fn digit_at(s: &[u8], i: usize, values: &[u8; 256]) -> u64
+pub fn digit_at(s: &[u8], i: usize, values: &[u8; 256]) -> u64
     requires { ⌜ (i < length (now s)) × DigitValues (now values) ⌝ }
     ensures { λ r. ⌜ r ≡ digitValue (getD (now (s .entry)) i 0) ⌝ }
 {

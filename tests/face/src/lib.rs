@@ -1,5 +1,6 @@
 //! Safe functions over the lab's C face (include/simp.h). Each lends slices and gives what the call told.
 
+pub mod hex_texts;
 pub mod random;
 pub mod texts;
 
@@ -28,6 +29,10 @@ mod c {
         pub fn simp_write_data(memory: *const u32, words: usize, text: *mut u8, n: usize, count: *mut u64) -> u32;
         pub fn simp_write_disk(disk: *const u32, words: usize, first: u64, sectors: u64, text: *mut u8, n: usize, count: *mut u64) -> u32;
         pub fn simp_write_frame(frame: *const u8, bytes: usize, text: *mut u8, n: usize, count: *mut u64) -> u32;
+        pub fn simp_read_hex_data(text: *const u8, n: usize, memory: *mut u32, words: usize, place: *mut u64) -> u32;
+        pub fn simp_read_hex_disk(text: *const u8, n: usize, disk: *mut u32, words: usize, place: *mut u64) -> u32;
+        pub fn simp_write_hex_data(memory: *const u32, words: usize, text: *mut u8, n: usize, count: *mut u64) -> u32;
+        pub fn simp_write_hex_disk(disk: *const u32, words: usize, text: *mut u8, n: usize, count: *mut u64) -> u32;
         pub fn simp_assemble(source: *const u8, n: usize, image: *mut u64, words: usize, memory: *mut u32, data: usize, place: *mut u64) -> u32;
         pub fn simp_list(words: *const u64, n: usize, text: *mut u8, room: usize, count: *mut u64, place: *mut u64) -> u32;
         pub fn simp_save(record: *const u64, numbers: usize, bytes: *mut u8, n: usize) -> u32;
@@ -54,6 +59,8 @@ reader!(read_image, simp_read_image, u64);
 reader!(read_data, simp_read_data, u32);
 reader!(read_disk, simp_read_disk, u32);
 reader!(read_frame, simp_read_frame, u8);
+reader!(read_hex_data, simp_read_hex_data, u32);
+reader!(read_hex_disk, simp_read_hex_disk, u32);
 
 pub fn read_irq2(text: &[u8], cycles: &mut [u64]) -> Told {
     let (mut count, mut place) = (UNWRITTEN, UNWRITTEN);
@@ -74,6 +81,8 @@ macro_rules! writer {
 writer!(write_image, simp_write_image, u64);
 writer!(write_data, simp_write_data, u32);
 writer!(write_frame, simp_write_frame, u8);
+writer!(write_hex_data, simp_write_hex_data, u32);
+writer!(write_hex_disk, simp_write_hex_disk, u32);
 
 pub fn write_disk(disk: &[u32], first: u64, sectors: u64, text: &mut [u8]) -> Told {
     let mut count = UNWRITTEN;

@@ -11,6 +11,24 @@ fn result(told: face::Told) -> Result<usize, Refusal> {
     }
 }
 
+/// A reader of a memory.
+macro_rules! reader {
+    ($name:ident, $word:ty) => {
+        pub fn $name(text: &[u8], words: &mut [$word]) -> Result<(), Refusal> {
+            result(face::$name(text, words)).map(|_| ())
+        }
+    };
+}
+
+/// A writer of a memory.
+macro_rules! writer {
+    ($name:ident, $word:ty) => {
+        pub fn $name(words: &[$word], text: &mut [u8]) -> Result<usize, Refusal> {
+            result(face::$name(words, text))
+        }
+    };
+}
+
 pub mod assembler {
     use super::{result, Refusal};
 
@@ -30,13 +48,6 @@ pub mod lister {
 pub mod files {
     use super::{result, Refusal};
 
-    macro_rules! reader {
-        ($name:ident, $word:ty) => {
-            pub fn $name(text: &[u8], words: &mut [$word]) -> Result<(), Refusal> {
-                result(face::$name(text, words)).map(|_| ())
-            }
-        };
-    }
     reader!(read_image, u64);
     reader!(read_data, u32);
     reader!(read_disk, u32);
@@ -46,13 +57,6 @@ pub mod files {
         result(face::read_irq2(text, list))
     }
 
-    macro_rules! writer {
-        ($name:ident, $word:ty) => {
-            pub fn $name(words: &[$word], text: &mut [u8]) -> Result<usize, Refusal> {
-                result(face::$name(words, text))
-            }
-        };
-    }
     writer!(write_image, u64);
     writer!(write_data, u32);
     writer!(write_frame, u8);
@@ -60,6 +64,15 @@ pub mod files {
     pub fn write_disk(disk: &[u32], first: usize, sectors: usize, text: &mut [u8]) -> Result<usize, Refusal> {
         result(face::write_disk(disk, first as u64, sectors as u64, text))
     }
+}
+
+pub mod hex {
+    use super::{result, Refusal};
+
+    reader!(read_hex_data, u32);
+    reader!(read_hex_disk, u32);
+    writer!(write_hex_data, u32);
+    writer!(write_hex_disk, u32);
 }
 
 pub mod record {

@@ -6,6 +6,7 @@
 
 pub mod assembler;
 pub mod files;
+pub mod hex;
 pub mod lister;
 pub mod machine;
 pub mod names;

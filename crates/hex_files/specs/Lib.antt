@@ -1,0 +1,1 @@
+-- Intel HEX for the data memory and for the disk. The definitions stand in intel_hex (what is read and written) and in files (lengths, and what a writer tells).

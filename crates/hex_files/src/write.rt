@@ -3,7 +3,7 @@ use files::DATA_WORDS;
 use files::DISK_WORDS;
 use files::Written;
 use intel_hex::put_hex_text;
-use text::digits::hex_pairs;
+use text::hex_words::hex_words;
 ghost use mathlib.Core.Path.{_≡_};
 ghost use Prim.Native.Nat.{_%_, _≤_};
 ghost use lib.Dec.{eqb};
@@ -37,6 +37,6 @@ fn write_hex(memory: &[u32], words: usize, text: &mut [u8]) -> Written
     if text.len() < 11 * words + 12 {
         return Written::NoRoom;
     }
-    let pairs = hex_pairs();
-    Written::Bytes(put_hex_text(memory, text, &pairs))
+    let table = hex_words();
+    Written::Bytes(put_hex_text(memory, text, &table))
 }

@@ -1,9 +1,9 @@
 -- Laws of memories put as Intel HEX. Assumes nothing.
-use Prim.Native.Nat.{ℕ, zero, suc, _+_, _-_, _*_, _/_, _%_, _≤_, _<_}
+use Prim.Native.Nat.{ℕ, zero, suc, _+_, _-_, _*_, _/_, _%_, _^_, _≤_, _<_}
 use Prim.Native.Char.{code}
 use mathlib.Core.Path.{_≡_, refl, sym, _∙_, ap}
 use mathlib.Core.List.{List, [], _∷_, _++_, append-assoc, append-nil}
-use native.Mathlib.Nat.{div-div-eq-div-mul, div-add-mod'}
+use native.Mathlib.Nat.{div-div-eq-div-mul, div-add-mod', mod-eq-of-lt}
 use native.Mathlib.Omega.{arith}
 use native.Mathlib.Numerals.{add-one}
 use lib.ListN.{length, getD, take, drop, set, length-append, length-drop, drop-of-length-le, take-append-drop}
@@ -49,19 +49,43 @@ word-digits w =
 
 -- ---- word by word
 
--- The sum of a word's bytes, as it is computed.
-pub word-total : (w : ℕ) → w / 0x1000000 % 256 + w / 0x10000 % 256 + w / 256 % 256 + w % 256 ≡ total (memoryBytes (w ∷ []))
-unfolding total memoryBytes
-word-total w = omega arith
+-- Two sums in one number, that of the low two bytes of words and that of the high two in the upper half; ..
+module _ (sums s low high : ℕ) (e : s ≡ low + high * 0x10000) (few : sums % 0x10000 + low < 0x10000) where
+  low-more : (sums + s) % 0x10000 ≡ sums % 0x10000 + low
+  low-more = omega arith
+
+  high-more : (sums + s) / 0x10000 ≡ sums / 0x10000 + high
+  high-more = omega arith
+
+-- .. with those of a word more.
+module _ (sums w s : ℕ) (e : s ≡ w % 256 + w / 256 % 256 + (w / 0x10000 % 256 + w / 0x1000000) * 0x10000) (h : w < 2 ^ 32) (few : sums % 0x10000 < 2040) where
+  low : (sums + s) % 0x10000 ≡ sums % 0x10000 + (w % 256 + w / 256 % 256)
+  low = low-more sums s (w % 256 + w / 256 % 256) (w / 0x10000 % 256 + w / 0x1000000) e (omega arith)
+
+  high : (sums + s) / 0x10000 ≡ sums / 0x10000 + (w / 0x10000 % 256 + w / 0x1000000)
+  high = high-more sums s (w % 256 + w / 256 % 256) (w / 0x10000 % 256 + w / 0x1000000) e (omega arith)
+
+  pub low-le : (sums + s) % 0x10000 ≤ sums % 0x10000 + 510
+  low-le = rw low (omega arith)
+
+  pub high-le : (sums + s) / 0x10000 ≤ sums / 0x10000 + 510
+  high-le = rw high (omega arith)
+
+  word-more : (sums + s) % 0x10000 + (sums + s) / 0x10000 ≡ sums % 0x10000 + sums / 0x10000 + total (memoryBytes (w ∷ []))
+  unfolding total memoryBytes
+  word-more = let top : w / 0x1000000 % 256 ≡ w / 0x1000000 = mod-eq-of-lt (omega arith) in rw (low, high, top) (omega arith)
 
 -- A turn of the loops over words, at the word i.
 module _ (ws : List ℕ) (i : ℕ) where
   first-bytes : i < length ws → memoryBytes (drop i ws) ≡ memoryBytes (getD ws i 0 ∷ []) ++ memoryBytes (drop (i + 1) ws)
   first-bytes h = rw (add-one i, drop-cons ws i 0 h) (bytes-append (getD ws i 0 ∷ []) (drop (suc i) ws))
 
-  pub sum-turn : (sum s : ℕ) → i < length ws → s ≡ total (memoryBytes (getD ws i 0 ∷ [])) → sum + s + total (memoryBytes (drop (i + 1) ws)) ≡ sum + total (memoryBytes (drop i ws))
-  sum-turn sum s h e =
+  pub sum-turn : (sums s : ℕ) → i < length ws → s ≡ getD ws i 0 % 256 + getD ws i 0 / 256 % 256 + (getD ws i 0 / 0x10000 % 256 + getD ws i 0 / 0x1000000) * 0x10000
+      → getD ws i 0 < 2 ^ 32 → sums % 0x10000 < 2040
+      → (sums + s) % 0x10000 + (sums + s) / 0x10000 + total (memoryBytes (drop (i + 1) ws)) ≡ sums % 0x10000 + sums / 0x10000 + total (memoryBytes (drop i ws))
+  sum-turn sums s h e small few =
       let both = ap total (first-bytes h) ∙ total-append (memoryBytes (getD ws i 0 ∷ [])) (memoryBytes (drop (i + 1) ws)) in
+      let more = word-more sums (getD ws i 0) s e small few in
       omega arith
 
   pub sum-end : (sum : ℕ) → length ws ≤ i → sum ≡ sum + total (memoryBytes (drop i ws))

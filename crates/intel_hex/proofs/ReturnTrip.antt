@@ -161,12 +161,16 @@ module _ (m : List ℕ) (fours : length m % 4 ≡ 0) (within : 4 * length m ≤ 
       rw (lines-back m, lines-put (length m / 4) 0 (memoryBytes m) zeros (omega arith) (length-bytes m ∙ omega arith) (below-bytes m), put-all zeros (memoryBytes m) all)
       (words-back m small)
 
-  -- Reading what was written is accepted and gives the memory back, whatever the memory lent, d, held.
+  -- So the text is accepted, ..
+  pub text-read : (words n : ℕ) → n ≡ words → length m ≡ words → hexOutcome words n (hexText m) ≡ accepted 0
+  unfolding hexOutcome
+  text-read words n size size′ = let same : n ≡ length m = size ∙ sym size′ in rw (eq-eqb n words size, same) lines-good
+
+  -- .. and reading it gives the memory back, whatever the memory lent, d, held.
   pub reading : Below (2 ^ 32) m → (words : ℕ) (d : List ℕ) (r : HexRead) (after : List ℕ) → length d ≡ words → length m ≡ words
       → HexFileRead words (hexText m) d r after
       → (hexReadOutcome r ≡ accepted 0) × (after ≡ m)
-  unfolding hexOutcome
   reading small words d r after size size′ p =
+      let good = text-read words (length d) size size′ in
       let same : length d ≡ length m = size ∙ sym size′ in
-      let good : hexOutcome words (length d) (hexText m) ≡ accepted 0 = rw (eq-eqb (length d) words size, same) lines-good in
       (p .answer ∙ good, rw good at (p .words-are) ∙ rw same (words-read small))

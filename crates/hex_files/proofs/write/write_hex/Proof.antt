@@ -6,7 +6,7 @@ use Rattle.hex_files.proofs.write.write_hex.Tie as tie
 use Rattle.hex_files.proofs.write.write_hex.Reads as reads
 use Rattle.hex_files.proofs.write.write_hex.Lts as lts
 use Rattle.intel_hex.proofs.put_hex_text.Reads as put-hex-text-reads
-use Rattle.text.proofs.digits.hex_pairs.Reads as hex-pairs-reads
+use Rattle.text.proofs.digits.hex_pairs.Reads as hex-words-reads
 
 returns : tie.Need-returns
 returns c = let a = c .before .before .before .args in not-so-many (a .memory .now) (a .words) (a .text .now) (c .if1 .taken)
@@ -20,8 +20,8 @@ add-if2 c = search needs
 returns-2 : tie.Need-returns-2
 returns-2 c = let a = c .before .before .before .before .args in too-long (a .memory .now) (a .words) (a .text .now) (c .before .if1 .left) (c .before .before .before .before .pre .0) (c .if2 .taken)
 
-hex-pairs-requires : tie.Need-hex-pairs-requires
-hex-pairs-requires c κs = search needs
+hex-words-requires : tie.Need-hex-words-requires
+hex-words-requires c κs = search needs
 
 put-hex-text-requires : tie.Need-put-hex-text-requires
 put-hex-text-requires c κs = search needs
@@ -40,7 +40,7 @@ write-hex-spec =
     mul-if2
     add-if2
     returns-2
-    hex-pairs-requires
+    hex-words-requires
     put-hex-text-requires
     same-length
     returns-3)

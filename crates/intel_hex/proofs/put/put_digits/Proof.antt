@@ -1,41 +1,49 @@
 -- `intel_hex::put::put_digits` meets its contract.
-use Prim.Native.Nat.{_+_, _-_, _*_, _≤_}
+use Prim.Native.Nat.{_+_, _-_, _*_, _/_, _%_, _≤_, _<_}
 use mathlib.Core.Path.{_≡_, refl, _∙_}
 use native.Mathlib.Omega.{arith}
-use native.Mathlib.Nat.{add-zero, zero-mul}
-use lib.ListN.{length, drop}
+use native.Mathlib.Nat.{add-zero, zero-add, zero-mul}
+use lib.ListN.{length, drop, getD}
 use Rattle.text.specs.Place.{put}
+use Rattle.intel_hex.specs.Record.{total}
 use Rattle.intel_hex.specs.Writing.{memoryBytes, bytePairs}
-use Rattle.intel_hex.proofs.PutLaws.{digits-turn, digits-end}
+use Rattle.intel_hex.proofs.PutLaws.{low-le, high-le, sum-turn, sum-end, digits-turn, digits-end}
 use Rattle.intel_hex.proofs.put.put_digits.Statement.{statement}
 use Rattle.intel_hex.proofs.put.put_digits.Tie as tie
+use Rattle.intel_hex.proofs.put.put_digits.Reads as reads
+use Rattle.intel_hex.proofs.put.put_digits.Lts as lts
+use Rattle.intel_hex.proofs.put.half_sums.Reads as half-sums-reads
+use Rattle.text.proofs.hex_words.put_hex_word.Reads as put-hex-word-reads
 
 abbrev Inv-loop : tie.InvT-loop
-Inv-loop words out₀ at pairs i₀ out i = (put out (at + i * 8) (bytePairs (memoryBytes (drop i words))) ≡ put out₀ at (bytePairs (memoryBytes words))) × (length out ≡ length out₀) × (i ≤ length words)
+Inv-loop words out₀ at table sums₀ i₀ out sums i = (put out (at + i * 8) (bytePairs (memoryBytes (drop i words))) ≡ put out₀ at (bytePairs (memoryBytes words))) × (sums % 65536 + sums / 65536 + total (memoryBytes (drop i words)) ≡ total (memoryBytes words)) × (sums % 65536 ≤ 510 * i) × (sums / 65536 ≤ 510 * i) × (length out ≡ length out₀) × (i ≤ length words)
 
 abbrev μ-loop : tie.MeasureT-loop
-μ-loop words out₀ at pairs i₀ out i = length words - i
+μ-loop words out₀ at table sums₀ i₀ out sums i = length words - i
 
 loop-holds : tie.Need-loop-holds Inv-loop μ-loop
-loop-holds c = (rw (zero-mul, add-zero), refl, omega arith)
+loop-holds c = (rw (zero-mul, add-zero), zero-add _, omega arith, omega arith, refl, omega arith)
 
-mul-put-hex : tie.Need-mul-put-hex Inv-loop μ-loop
-mul-put-hex c = omega arith
+mul-w : tie.Need-mul-w Inv-loop μ-loop
+mul-w c = omega arith
 
-add-put-hex : tie.Need-add-put-hex Inv-loop μ-loop
-add-put-hex c = omega arith
+shared-slice-read-w : tie.Need-shared-slice-read-w Inv-loop μ-loop
+shared-slice-read-w c = omega arith
 
-mul-put-hex-2 : tie.Need-mul-put-hex-2 Inv-loop μ-loop
-mul-put-hex-2 c = omega arith
+mul-put-hex-word : tie.Need-mul-put-hex-word Inv-loop μ-loop
+mul-put-hex-word c = omega arith
 
-shared-slice-read-put-hex : tie.Need-shared-slice-read-put-hex Inv-loop μ-loop
-shared-slice-read-put-hex c = omega arith
+add-put-hex-word : tie.Need-add-put-hex-word Inv-loop μ-loop
+add-put-hex-word c = omega arith
 
-cast-put-hex : tie.Need-cast-put-hex Inv-loop μ-loop
-cast-put-hex c = omega (arith, c .shared-slice-known2 .given (c .before .before .before .loop .i))
+put-hex-word-requires : tie.Need-put-hex-word-requires Inv-loop μ-loop
+put-hex-word-requires c κs = (omega arith, c .before .before .before .before .before .before .pre .2)
 
-put-hex-requires : tie.Need-put-hex-requires Inv-loop μ-loop
-put-hex-requires c κs = (omega arith, c .before .before .before .before .before .before .pre .1)
+half-sums-requires : tie.Need-half-sums-requires Inv-loop μ-loop
+half-sums-requires c κs = tt
+
+add-sums : tie.Need-add-sums Inv-loop μ-loop
+add-sums c = omega (arith, c .half-sums .ensures .1)
 
 add-i : tie.Need-add-i Inv-loop μ-loop
 add-i c = omega arith
@@ -45,13 +53,22 @@ loop-less c = omega arith
 
 loop-again : tie.Need-loop-again Inv-loop μ-loop
 loop-again c =
-    let l = c .before .before .before .before .before .before .loop in
-    let a = c .before .before .before .before .before .before .before .before .before .args in
-    let p = c .before .before .put-hex in (
-      digits-turn (a .words .now) (l .i) (l .out) _ (a .at) (omega arith) (p .ensures) ∙ l .inv .0,
+    let l = c .before .before .before .before .before .before .before .loop in
+    let a = c .before .before .before .before .before .before .before .before .before .before .args in
+    let p = c .before .before .before .put-hex-word in
+    let half = c .half-sums .ensures in
+    let ws = a .words .now in
+    let few : l .sums % 65536 < 2040 = omega arith in (
+      digits-turn ws (l .i) (l .out) _ (a .at) (omega arith) (p .ensures) ∙ l .inv .0,
+      sum-turn ws (l .i) (l .sums) _ (omega arith) (half .0) (half .1) few ∙ l .inv .1,
+      omega (arith, low-le (l .sums) (getD ws (l .i) 0) _ (half .0) (half .1) few),
+      omega (arith, high-le (l .sums) (getD ws (l .i) 0) _ (half .0) (half .1) few),
       omega (arith, p .kept),
       omega arith,
     )
+
+add-result : tie.Need-add-result Inv-loop μ-loop
+add-result c = omega arith
 
 same-length : tie.Need-same-length Inv-loop μ-loop
 same-length c = omega arith
@@ -60,7 +77,7 @@ returns : tie.Need-returns Inv-loop μ-loop
 returns c =
     let l = c .before .loop in
     let a = c .before .before .before .before .args in
-    digits-end (a .words .now) (l .i) (l .out) (a .at + l .i * 8) (omega arith) ∙ l .inv .0
+    (digits-end (a .words .now) (l .i) (l .out) (a .at + l .i * 8) (omega arith) ∙ l .inv .0, sum-end (a .words .now) (l .i) (l .sums % 65536 + l .sums / 65536) (omega arith) ∙ l .inv .1, omega arith)
 
 pub put-digits-spec : {M : Type 1} → statement M
 put-digits-spec =
@@ -69,14 +86,16 @@ put-digits-spec =
     Inv-loop
     μ-loop
     loop-holds
-    mul-put-hex
-    add-put-hex
-    mul-put-hex-2
-    shared-slice-read-put-hex
-    cast-put-hex
-    put-hex-requires
+    mul-w
+    shared-slice-read-w
+    mul-put-hex-word
+    add-put-hex-word
+    put-hex-word-requires
+    half-sums-requires
+    add-sums
     add-i
     loop-less
     loop-again
+    add-result
     same-length
     returns)

@@ -12,10 +12,10 @@ use Rattle.intel_hex.proofs.put.put_hex_text.Statement.{statement}
 use Rattle.intel_hex.proofs.put.put_hex_text.Tie as tie
 
 abbrev Inv-loop : tie.InvT-loop
-Inv-loop words out₀ pairs at₀ i₀ t6 out at i = (put out at (restText words i) ≡ put out₀ 0 (hexText words)) × (length out ≡ length out₀) × (at ≡ 11 * i) × (i % 4 ≡ 0) × (i ≤ length words)
+Inv-loop words out₀ table at₀ i₀ t6 out at i = (put out at (restText words i) ≡ put out₀ 0 (hexText words)) × (length out ≡ length out₀) × (at ≡ 11 * i) × (i % 4 ≡ 0) × (i ≤ length words)
 
 abbrev μ-loop : tie.MeasureT-loop
-μ-loop words out₀ pairs at₀ i₀ t6 out at i = length words - i
+μ-loop words out₀ table at₀ i₀ t6 out at i = length words - i
 
 -- Four words are left where one is.
 left : (c : tie.In-loop Inv-loop μ-loop) → c .before .loop .i + 4 ≤ length (c .before .before .before .before .args .words .now)
@@ -43,13 +43,16 @@ part-put-record-end c = omega (arith, left c)
 mul-put-record-2 : tie.Need-mul-put-record-2 Inv-loop μ-loop
 mul-put-record-2 c = omega arith
 
+cast-put-record : tie.Need-cast-put-record Inv-loop μ-loop
+cast-put-record c = omega arith
+
 put-record-requires : tie.Need-put-record-requires Inv-loop μ-loop
 put-record-requires c κs =
     let a = c .before .before .before .before .before .before .args in
     let l = c .before .before .before .loop in
     let more = left (c .before .before) in
     let four : l .i + 4 - l .i ≡ 4 = omega arith in
-    (rw four (length-take-le 4 (drop (l .i) (a .words .now)) (rw length-drop (omega arith))), omega arith, omega arith, c .before .before .before .before .before .before .pre .3)
+    (rw four (length-take-le 4 (drop (l .i) (a .words .now)) (rw length-drop (omega arith))), omega arith, c .before .before .before .before .before .before .pre .3)
 
 add-at : tie.Need-add-at Inv-loop μ-loop
 add-at c = omega arith
@@ -104,6 +107,7 @@ put-hex-text-spec =
     part-put-record-start
     part-put-record-end
     mul-put-record-2
+    cast-put-record
     put-record-requires
     add-at
     add-i

@@ -2,7 +2,7 @@
 -- what the writer answered and `sent` the slice that it was lent, after the call; r is what the reader answered and `after` the memory that it was
 -- lent, whatever it held, after the call. Assumes nothing.
 use Prim.Native.Nat.{ℕ, _+_, _*_, _%_, _^_, _≤_}
-use mathlib.Core.Path.{_≡_, refl, sym, _∙_, ap}
+use mathlib.Core.Path.{_≡_, refl, _∙_, ap}
 use mathlib.Core.List.{List}
 use native.Mathlib.Omega.{arith}
 use lib.ListN.{length, take}

@@ -1,6 +1,6 @@
 -- How the reader's answer meets its promise. Assumes nothing.
 use Prim.Native.Nat.{ℕ, _*_}
-use mathlib.Core.Path.{_≡_, refl, sym, _∙_, ap}
+use mathlib.Core.Path.{_≡_, sym, _∙_, ap}
 use mathlib.Core.Bool.{true, false}
 use mathlib.Core.List.{List}
 use lib.ListN.{length, replicate}
@@ -8,7 +8,7 @@ use lib.Dec.{eqb}
 use borrow.Author.Tests.{eq-eqb, ne-eqb, eqb-true}
 use Rattle.text.specs.declared.Outcome.{Outcome}
 use Rattle.intel_hex.specs.declared.HexRead.{HexRead}
-use Rattle.intel_hex.specs.Reading.{recordLines, recordsOutcome, hexOutcome, putRecords, wordsOf, hexWords}
+use Rattle.intel_hex.specs.Reading.{hexOutcome, wordsOf}
 use Rattle.intel_hex.specs.Answers.{hexReadOutcome}
 use Rattle.intel_hex.specs.Promises.{RecordsRead, HexFileRead}
 use Rattle.intel_hex.proofs.WordLaws.{words-are}

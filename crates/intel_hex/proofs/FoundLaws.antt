@@ -1,13 +1,13 @@
 -- What the code finds on the first line of a text. Assumes nothing.
 use Prim.Native.Nat.{ℕ, _+_, _-_, _*_, _%_, _≤_, _<_}
 use mathlib.Core.Path.{_≡_, refl, sym, _∙_, ap}
-use mathlib.Core.Bool.{Bool, true, false, not, _&&_, true≢false, false≢true}
+use mathlib.Core.Bool.{Bool, true, false, not, _&&_, false≢true}
 use mathlib.Core.List.{List, [], _∷_, map}
 use native.Mathlib.Omega.{arith}
-use lib.ListN.{length, getD, take, drop}
+use lib.ListN.{length, getD, take}
 use lib.Seq.{length-take-le}
 use lib.Dec.{eqb, ltb}
-use borrow.Author.Tests.{ltb-true, eq-eqb, ne-eqb, eqb-false, not-true, not-false}
+use borrow.Author.Tests.{ltb-true, ne-eqb, eqb-false, not-true, not-false}
 use Rattle.text.specs.Numerals.{digitValue, allDigits}
 use Rattle.text.specs.Lines.{firstLine}
 use Rattle.text.specs.Place.{put}
@@ -16,7 +16,7 @@ use Rattle.text.proofs.PutLaws.{length-put}
 use Rattle.text.proofs.RangeLaws.{below-mod}
 use Rattle.intel_hex.specs.declared.Found.{Found}
 use Rattle.intel_hex.specs.declared.record.Head.{Head}
-use Rattle.intel_hex.specs.Record.{pairValues, total, recordBytes, dataCount, address, type, dataBytes, isRecord}
+use Rattle.intel_hex.specs.Record.{pairValues, total, recordBytes, dataCount, address, isRecord}
 use Rattle.intel_hex.specs.Reading.{withoutCR}
 use Rattle.intel_hex.specs.Promises.{isPair, pairValue, isHead, HeadRead, firstRecord, recordEnd, nothingFound, RecordFound}
 use Rattle.intel_hex.proofs.PairLaws.{values-below}

@@ -1,5 +1,5 @@
 -- A turn of the reader: the record on the next line, what is told then and what is put. Assumes nothing.
-use Prim.Native.Nat.{ℕ, suc, _+_, _-_, _*_, _≤_, _<_}
+use Prim.Native.Nat.{ℕ, suc, _+_, _-_, _≤_, _<_}
 use mathlib.Core.Path.{_≡_, refl, sym, _∙_, ap}
 use mathlib.Core.Bool.{Bool, true, false, cond, not, _&&_, _||_, true≢false, false≢true}
 use mathlib.Core.List.{List, [], _∷_, map}
@@ -15,8 +15,8 @@ use Rattle.text.specs.Place.{put}
 use Rattle.text.proofs.Truth.{and-right, neither}
 use Rattle.text.proofs.LineLaws.{lines-first}
 use Rattle.intel_hex.specs.declared.Found.{Found}
-use Rattle.intel_hex.specs.Record.{recordBytes, dataCount, address, type, dataBytes, isRecord}
-use Rattle.intel_hex.specs.Reading.{withoutCR, recordLines, isEnd, isRightEnd, isReadType, isPlaced, recordQuestions, freeAfter, putRecords}
+use Rattle.intel_hex.specs.Record.{recordBytes, dataCount, address, type, isRecord}
+use Rattle.intel_hex.specs.Reading.{withoutCR, recordLines, isEnd, isRightEnd, isReadType, isPlaced, freeAfter, putRecords}
 use Rattle.intel_hex.specs.Promises.{firstRecord, RecordFound, foundOutcome}
 use Rattle.intel_hex.proofs.OutcomeLaws.{isNone, none-is, told}
 

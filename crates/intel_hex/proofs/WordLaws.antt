@@ -1,22 +1,20 @@
 -- The words that a text gives, from more bytes than the memory has or from fewer: a good text names none that is missing. Assumes nothing.
 use Prim.Native.Nat.{ℕ, zero, suc, _+_, _-_, _*_, _≤_, _<_}
-use mathlib.Core.Path.{_≡_, refl, sym, _∙_, ap}
+use mathlib.Core.Path.{_≡_, refl, _∙_}
 use mathlib.Core.Bool.{Bool, true, false, cond, not, _&&_, _||_}
 use mathlib.Core.List.{List, [], _∷_}
-use native.Mathlib.Nat.{suc-add, add-suc}
 use native.Mathlib.Omega.{arith}
-use lib.ListN.{length, getD, take, drop, set, replicate, length-drop, length-set, length-take, length-replicate}
+use lib.ListN.{length, getD, drop, set, replicate, length-drop, length-set, length-take, length-replicate}
 use lib.Seq.{getD-drop, getD-set-same, getD-set-other}
 use lib.Dec.{eqb}
 use borrow.Author.Tests.{eqb-true, eqb-false}
-use Rattle.text.specs.declared.Outcome.{Outcome}
 use Rattle.text.specs.Questions.{accepted}
 use Rattle.text.specs.Place.{put}
 use Rattle.text.proofs.Truth.{and-left, and-right}
 use Rattle.text.proofs.PutLaws.{length-put}
 use Rattle.text.proofs.QuestionLaws.{first-yes}
 use Rattle.intel_hex.specs.Record.{recordBytes, dataCount, address, type, dataBytes, isRecord}
-use Rattle.intel_hex.specs.Reading.{recordLines, isEnd, isRightEnd, isReadType, isPlaced, freeAfter, recordsOutcome, putRecords, firstWord, wordsOf, hexWords}
+use Rattle.intel_hex.specs.Reading.{recordLines, isEnd, isRightEnd, isReadType, isPlaced, freeAfter, recordsOutcome, putRecords, wordsOf, hexWords}
 use Rattle.intel_hex.proofs.PairLaws.{values-below}
 use Rattle.intel_hex.proofs.RecordLaws.{record-digits}
 use Rattle.intel_hex.proofs.OutcomeLaws.{isNone, none-is, told, told-is}

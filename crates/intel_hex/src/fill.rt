@@ -2,7 +2,7 @@
 use crate::record::BYTES;
 ghost use mathlib.Core.Path.{_≡_};
 ghost use Prim.Native.Nat.{_+_, _*_, _≤_};
-ghost use lib.ListN.{length, drop, replicate};
+ghost use lib.ListN.{length, drop};
 ghost use Rattle.intel_hex.specs.Reading.{firstWord, wordsOf};
 
 // Sets every word of a memory from bytes, to 0 where they end.

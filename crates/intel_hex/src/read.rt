@@ -7,7 +7,7 @@ use crate::record::BYTES;
 use crate::record::find_record;
 use text::digits::digit_values;
 ghost use mathlib.Core.Path.{_≡_};
-ghost use Prim.Native.Nat.{_+_, _*_, _≤_};
+ghost use Prim.Native.Nat.{_+_, _*_};
 ghost use lib.ListN.{length};
 ghost use Rattle.text.specs.Numerals.{DigitValues};
 ghost use Rattle.intel_hex.specs.Promises.{RecordsRead, HexFileRead};

@@ -3,10 +3,6 @@ use borrow.Author.Needs.{needs}
 use Rattle.hex_files.proofs.WriteLaws.{not-so-many, too-long, all-written}
 use Rattle.hex_files.proofs.write.write_hex.Statement.{statement}
 use Rattle.hex_files.proofs.write.write_hex.Tie as tie
-use Rattle.hex_files.proofs.write.write_hex.Reads as reads
-use Rattle.hex_files.proofs.write.write_hex.Lts as lts
-use Rattle.intel_hex.proofs.put_hex_text.Reads as put-hex-text-reads
-use Rattle.text.proofs.digits.hex_pairs.Reads as hex-words-reads
 
 returns : tie.Need-returns
 returns c = let a = c .before .before .before .args in not-so-many (a .memory .now) (a .words) (a .text .now) (c .if1 .taken)

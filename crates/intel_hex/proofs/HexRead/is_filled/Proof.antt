@@ -2,8 +2,6 @@
 use borrow.Author.Needs.{needs}
 use Rattle.intel_hex.proofs.HexRead.is_filled.Statement.{statement}
 use Rattle.intel_hex.proofs.HexRead.is_filled.Tie as tie
-use Rattle.intel_hex.proofs.HexRead.is_filled.Reads as reads
-use Rattle.intel_hex.proofs.HexRead.is_filled.Lts as lts
 
 enum-told : tie.Need-enum-told
 enum-told c = search needs

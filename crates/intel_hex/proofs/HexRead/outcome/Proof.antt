@@ -2,10 +2,6 @@
 use borrow.Author.Needs.{needs}
 use Rattle.intel_hex.proofs.HexRead.outcome.Statement.{statement}
 use Rattle.intel_hex.proofs.HexRead.outcome.Tie as tie
-use Rattle.intel_hex.proofs.HexRead.outcome.Reads as reads
-use Rattle.intel_hex.proofs.HexRead.outcome.Lts as lts
-use Rattle.text.proofs.outcomes.accepted.Reads as accepted-reads
-use Rattle.text.proofs.outcomes.refused.Reads as refused-reads
 
 enum-told : tie.Need-enum-told
 enum-told c = search needs

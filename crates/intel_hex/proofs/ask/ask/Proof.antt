@@ -3,8 +3,6 @@ use borrow.Author.Needs.{needs}
 use Rattle.intel_hex.proofs.OutcomeLaws.{no-record, other-type, not-placed, all-right}
 use Rattle.intel_hex.proofs.ask.ask.Statement.{statement}
 use Rattle.intel_hex.proofs.ask.ask.Tie as tie
-use Rattle.intel_hex.proofs.ask.ask.Reads as reads
-use Rattle.intel_hex.proofs.ask.ask.Lts as lts
 
 returns : tie.Need-returns
 returns c = let a = c .before .before .before .before .args in no-record (a .room) (a .free) (a .is-last) (a .found) (a .line) (c .if1 .taken)

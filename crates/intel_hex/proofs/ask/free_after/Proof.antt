@@ -4,8 +4,6 @@ use native.Mathlib.Omega.{arith}
 use borrow.Author.Tests.{eq-eqb, ne-eqb}
 use Rattle.intel_hex.proofs.ask.free_after.Statement.{statement}
 use Rattle.intel_hex.proofs.ask.free_after.Tie as tie
-use Rattle.intel_hex.proofs.ask.free_after.Reads as reads
-use Rattle.intel_hex.proofs.ask.free_after.Lts as lts
 
 returns : tie.Need-returns
 returns c = rw (eq-eqb _ 0 (c .if1 .taken))

@@ -9,9 +9,6 @@ use Rattle.intel_hex.specs.Reading.{wordsOf}
 use Rattle.intel_hex.proofs.FillLaws.{words-turn, words-end}
 use Rattle.intel_hex.proofs.fill.fill_memory.Statement.{statement}
 use Rattle.intel_hex.proofs.fill.fill_memory.Tie as tie
-use Rattle.intel_hex.proofs.fill.fill_memory.Reads as reads
-use Rattle.intel_hex.proofs.fill.fill_memory.Lts as lts
-use Rattle.intel_hex.proofs.fill.word.Reads as word-reads
 
 abbrev Inv-loop : tie.InvT-loop
 Inv-loop bytes memory₀ i₀ memory i = (take i memory ++ wordsOf (length memory₀ - i) (drop (4 * i) bytes) ≡ wordsOf (length memory₀) bytes) × (length memory ≡ length memory₀) × (i ≤ length memory₀)

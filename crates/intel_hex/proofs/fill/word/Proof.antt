@@ -5,9 +5,6 @@ use Prim.Native.Nat.{_*_}
 use Rattle.intel_hex.proofs.FillLaws.{no-word}
 use Rattle.intel_hex.proofs.fill.word.Statement.{statement}
 use Rattle.intel_hex.proofs.fill.word.Tie as tie
-use Rattle.intel_hex.proofs.fill.word.Reads as reads
-use Rattle.intel_hex.proofs.fill.word.Lts as lts
-use Rattle.intel_hex.proofs.fill.word_at.Reads as word-at-reads
 
 mul-word-at : tie.Need-mul-word-at
 mul-word-at c = search needs

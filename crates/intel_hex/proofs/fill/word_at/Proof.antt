@@ -1,12 +1,8 @@
 -- `intel_hex::fill::word_at` meets its contract.
 use borrow.Author.Needs.{needs}
-use mathlib.Core.Path.{_∙_}
 use Rattle.intel_hex.proofs.FillLaws.{word-is}
 use Rattle.intel_hex.proofs.fill.word_at.Statement.{statement}
 use Rattle.intel_hex.proofs.fill.word_at.Tie as tie
-use Rattle.intel_hex.proofs.fill.word_at.Reads as reads
-use Rattle.intel_hex.proofs.fill.word_at.Lts as lts
-use Rattle.intel_hex.proofs.fill.wide.Reads as wide-reads
 
 element-copy-out-wide : tie.Need-element-copy-out-wide
 element-copy-out-wide c = search needs

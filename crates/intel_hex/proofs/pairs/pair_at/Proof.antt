@@ -6,9 +6,6 @@ use lib.ListN.{getD}
 use Rattle.intel_hex.proofs.PairLaws.{value-le}
 use Rattle.intel_hex.proofs.pairs.pair_at.Statement.{statement}
 use Rattle.intel_hex.proofs.pairs.pair_at.Tie as tie
-use Rattle.intel_hex.proofs.pairs.pair_at.Reads as reads
-use Rattle.intel_hex.proofs.pairs.pair_at.Lts as lts
-use Rattle.text.proofs.digits.digit_at.Reads as digit-at-reads
 
 digit-at-requires : tie.Need-digit-at-requires
 digit-at-requires c κs = search needs

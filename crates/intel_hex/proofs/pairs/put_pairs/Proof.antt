@@ -12,9 +12,6 @@ use Rattle.intel_hex.proofs.PairLaws.{good-turn, sum-turn, bytes-turn, 
 use native.Mathlib.Nat.{add-zero, zero-add}
 use Rattle.intel_hex.proofs.pairs.put_pairs.Statement.{statement}
 use Rattle.intel_hex.proofs.pairs.put_pairs.Tie as tie
-use Rattle.intel_hex.proofs.pairs.put_pairs.Reads as reads
-use Rattle.intel_hex.proofs.pairs.put_pairs.Lts as lts
-use Rattle.intel_hex.proofs.pairs.pair_at.Reads as pair-at-reads
 
 abbrev Inv-loop : tie.InvT-loop
 Inv-loop pairs count bytes₀ at values good₀ sum₀ k₀ bytes good sum k = (good && allDigits 16 (drop (2 * k) pairs) ≡ allDigits 16 pairs) × (sum + total (pairValues (drop (2 * k) pairs)) ≡ total (pairValues pairs)) × (put bytes (at + k) (map (λ b. b % 256) (pairValues (drop (2 * k) pairs))) ≡ put bytes₀ at (map (λ b. b % 256) (pairValues pairs))) × (length bytes ≡ length bytes₀) × (sum ≤ 272 * k) × (k ≤ count)

@@ -10,10 +10,6 @@ use Rattle.intel_hex.specs.Writing.{memoryBytes, bytePairs}
 use Rattle.intel_hex.proofs.PutLaws.{low-le, high-le, sum-turn, sum-end, digits-turn, digits-end}
 use Rattle.intel_hex.proofs.put.put_digits.Statement.{statement}
 use Rattle.intel_hex.proofs.put.put_digits.Tie as tie
-use Rattle.intel_hex.proofs.put.put_digits.Reads as reads
-use Rattle.intel_hex.proofs.put.put_digits.Lts as lts
-use Rattle.intel_hex.proofs.put.half_sums.Reads as half-sums-reads
-use Rattle.text.proofs.hex_words.put_hex_word.Reads as put-hex-word-reads
 
 abbrev Inv-loop : tie.InvT-loop
 Inv-loop words out₀ at table sums₀ i₀ out sums i = (put out (at + i * 8) (bytePairs (memoryBytes (drop i words))) ≡ put out₀ at (bytePairs (memoryBytes words))) × (sums % 65536 + sums / 65536 + total (memoryBytes (drop i words)) ≡ total (memoryBytes words)) × (sums % 65536 ≤ 510 * i) × (sums / 65536 ≤ 510 * i) × (length out ≡ length out₀) × (i ≤ length words)

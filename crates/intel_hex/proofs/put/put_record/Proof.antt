@@ -6,11 +6,6 @@ use lib.ListN.{length-set}
 use Rattle.intel_hex.proofs.PutLaws.{record-put}
 use Rattle.intel_hex.proofs.put.put_record.Statement.{statement}
 use Rattle.intel_hex.proofs.put.put_record.Tie as tie
-use Rattle.intel_hex.proofs.put.put_record.Reads as reads
-use Rattle.intel_hex.proofs.put.put_record.Lts as lts
-use Rattle.intel_hex.proofs.put.put_digits.Reads as put-digits-reads
-use Rattle.text.proofs.hex_words.put_hex_byte.Reads as put-hex-byte-reads
-use Rattle.text.proofs.hex_words.put_hex_word.Reads as put-hex-word-reads
 
 slice-write-out : tie.Need-slice-write-out
 slice-write-out c = search needs

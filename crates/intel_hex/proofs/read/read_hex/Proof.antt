@@ -1,17 +1,11 @@
 -- `intel_hex::read::read_hex` meets its contract.
 use borrow.Author.Needs.{needs}
 use Prim.Native.Nat.{ℕ}
-use mathlib.Core.Path.{refl, sym, _∙_}
+use mathlib.Core.Path.{sym, _∙_}
 use lib.ListN.{length-replicate}
 use Rattle.intel_hex.proofs.AnswerLaws.{wrong-length, was-refused, was-filled}
 use Rattle.intel_hex.proofs.read.read_hex.Statement.{statement}
 use Rattle.intel_hex.proofs.read.read_hex.Tie as tie
-use Rattle.intel_hex.proofs.read.read_hex.Reads as reads
-use Rattle.intel_hex.proofs.read.read_hex.Lts as lts
-use Rattle.intel_hex.proofs.HexRead.is_filled.Reads as is-filled-reads
-use Rattle.intel_hex.proofs.fill.fill_memory.Reads as fill-memory-reads
-use Rattle.intel_hex.proofs.read.read_records.Reads as read-records-reads
-use Rattle.text.proofs.digits.digit_values.Reads as digit-values-reads
 
 returns : tie.Need-returns
 returns c = let a = c .before .before .before .args in wrong-length (a .words) (a .text .now) (a .memory .now) (c .if1 .taken)

@@ -1,5 +1,5 @@
 -- `intel_hex::read::read_records` meets its contract.
-use Prim.Native.Nat.{ℕ, _+_, _-_, _≤_}
+use Prim.Native.Nat.{_+_, _-_, _≤_}
 use mathlib.Core.Path.{_≡_, refl, sym, _∙_, ap}
 use native.Mathlib.Omega.{arith}
 use lib.ListN.{length, drop}
@@ -10,12 +10,6 @@ use Rattle.intel_hex.proofs.OutcomeLaws.{told, told-is}
 use Rattle.intel_hex.proofs.TurnLaws.{told-past, turn-stop, turn-next}
 use Rattle.intel_hex.proofs.read.read_records.Statement.{statement}
 use Rattle.intel_hex.proofs.read.read_records.Tie as tie
-use Rattle.intel_hex.proofs.read.read_records.Reads as reads
-use Rattle.intel_hex.proofs.read.read_records.Lts as lts
-use Rattle.intel_hex.proofs.HexRead.is_filled.Reads as is-filled-reads
-use Rattle.intel_hex.proofs.ask.ask.Reads as ask-reads
-use Rattle.intel_hex.proofs.ask.free_after.Reads as free-after-reads
-use Rattle.intel_hex.proofs.record.find_record.Reads as find-record-reads
 
 abbrev Inv-loop : tie.InvT-loop
 Inv-loop text room bytes₀ values at₀ i₀ free₀ bytes at i free = (told room free i (recordLines (drop at text)) ≡ recordsOutcome room (recordLines text)) × (putRecords bytes (recordLines (drop at text)) ≡ putRecords bytes₀ (recordLines text)) × (length bytes ≡ 65792) × (i ≤ at) × (at ≤ length text + 1)

@@ -1,23 +1,13 @@
 -- `intel_hex::record::find_record` meets its contract.
 use borrow.Author.Needs.{needs}
-use Prim.Native.Nat.{_+_, _-_, _*_, _≤_, _<_}
-use mathlib.Core.Path.{_≡_, refl, sym, _∙_}
-use mathlib.Core.Bool.{true}
+use Prim.Native.Nat.{_-_}
+use mathlib.Core.Path.{sym, _∙_}
 use native.Mathlib.Omega.{arith}
-use lib.ListN.{length}
-use borrow.Author.Tests.{not-true, not-false}
-use Rattle.intel_hex.specs.Promises.{isHead}
-use Rattle.intel_hex.proofs.RecordLaws.{recordStop, head-bytes, length-data}
+use borrow.Author.Tests.{not-true}
+use Rattle.intel_hex.proofs.RecordLaws.{length-data}
 use Rattle.intel_hex.proofs.FoundLaws.{head-good, head-small, head-stop, too-short, no-head, cut-off, nothing-there, found-there}
 use Rattle.intel_hex.proofs.record.find_record.Statement.{statement}
 use Rattle.intel_hex.proofs.record.find_record.Tie as tie
-use Rattle.intel_hex.proofs.record.find_record.Reads as reads
-use Rattle.intel_hex.proofs.record.find_record.Lts as lts
-use Rattle.intel_hex.proofs.pairs.pair_at.Reads as pair-at-reads
-use Rattle.intel_hex.proofs.pairs.put_pairs.Reads as put-pairs-reads
-use Rattle.intel_hex.proofs.record.head_of.Reads as head-of-reads
-use Rattle.intel_hex.proofs.record.nothing.Reads as nothing-reads
-use Rattle.intel_hex.proofs.record.record_end.Reads as record-end-reads
 
 nothing-requires : tie.Need-nothing-requires
 nothing-requires c κs = search needs

@@ -1,11 +1,7 @@
 -- `intel_hex::record::head_of` meets its contract.
 use borrow.Author.Needs.{needs}
-use mathlib.Core.Path.{refl}
 use Rattle.intel_hex.proofs.record.head_of.Statement.{statement}
 use Rattle.intel_hex.proofs.record.head_of.Tie as tie
-use Rattle.intel_hex.proofs.record.head_of.Reads as reads
-use Rattle.intel_hex.proofs.record.head_of.Lts as lts
-use Rattle.intel_hex.proofs.pairs.pair_at.Reads as pair-at-reads
 
 pair-at-requires : tie.Need-pair-at-requires
 pair-at-requires c κs = search needs

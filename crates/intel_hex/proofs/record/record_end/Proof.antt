@@ -5,9 +5,6 @@ use native.Mathlib.Omega.{arith}
 use Rattle.intel_hex.proofs.RecordLaws.{goes-on, ends-at, no-cr-there, ends-after, ends-nowhere}
 use Rattle.intel_hex.proofs.record.record_end.Statement.{statement}
 use Rattle.intel_hex.proofs.record.record_end.Tie as tie
-use Rattle.intel_hex.proofs.record.record_end.Reads as reads
-use Rattle.intel_hex.proofs.record.record_end.Lts as lts
-use Rattle.text.proofs.lines.ends_line.Reads as ends-line-reads
 
 ends-line-requires : tie.Need-ends-line-requires
 ends-line-requires c κs = search needs

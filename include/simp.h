@@ -82,9 +82,9 @@ uint32_t simp_write_disk(const uint32_t *disk, size_t disk_len, uint64_t first, 
  * Writes these and `count`, which is how many. Returns 0, 1 or 15. */
 uint32_t simp_write_frame(const uint8_t *frame, size_t frame_len, uint8_t *text, size_t text_len, uint64_t *count);
 
-/* Reads Intel HEX into a data memory of 4,096 words. Word n is bytes 4n to 4n+3, most significant first; records of types 00 and 01, digits of either
- * case, an LF or CR LF after each line, which the last may lack; addresses rise, and bytes that no record names become 0. Writes the memory and `place`.
- * Returns 0, 1, 17, 18 or 19. */
+/* Reads Intel HEX into a data memory of 4,096 words. Word n is bytes 4n to 4n+3, most significant first. Each line is a record of type 00 or, the last
+ * one, of type 01; digits of either case; a line ends in LF or CR LF, the last one also in CR or in nothing. A record with data begins above the last byte
+ * named before it; bytes that no record names become 0. Writes the memory and `place`. Returns 0, 1, 17, 18 or 19. It needs about 66 KB of stack. */
 uint32_t simp_read_hex_data(const uint8_t *text, size_t text_len, uint32_t *memory, size_t memory_len, uint64_t *place);
 
 /* Reads Intel HEX into a disk of 16,384 words, 65,536 bytes, in the same way. Writes the disk and `place`. Returns 0, 1, 17, 18 or 19. */

@@ -5,8 +5,9 @@
 //     resume IMEM .. LOG           the command resume, of eight;
 //     show RECORD                  the command show;
 //     picture MONITOR PGM          the command picture;
+//     hex WAY MEMORY FROM TO       the command hex;
 //     equal A B                    says whether two files hold the same bytes;
-//     numbers                      the lines of the refusals 0 to 17 at place 7, and of 12 and 16 at place 0.
+//     numbers                      the lines of the refusals 0 to 20 at place 7, and of 12 and 16 at place 0.
 // Before each step it prints the step's words. Where data/ has files that are expected, its README.md says where they come from.
 mod compare;
 mod steps;
@@ -21,6 +22,8 @@ use commands::list_file;
 use commands::show_record;
 use console::open_missing_standard_streams;
 use console::say_refusal;
+use hex_commands::conversion_at;
+use hex_commands::convert;
 use memories::Count;
 use memories::read_budget;
 use run_commands::resume;
@@ -65,10 +68,11 @@ fn run_step(key: u8, i: usize)
     match key {
         b'a' => assemble_file(i + 1),
         b'l' => list_file(i + 1),
-        b'i' => simulate_step(i),
+        b'm' => simulate_step(i),
         b'r' => resume(i + 1),
-        b'h' => show_record(i + 1),
+        b'o' => show_record(i + 1),
         b'p' => draw_frame(i + 1),
+        b'h' => convert(conversion_at(i + 1), i + 3),
         b'e' => compare_files(i + 1, i + 2),
         _ => say_refusals(),
     }
@@ -86,7 +90,7 @@ fn simulate_step(i: usize)
 // Says each refusal.
 fn say_refusals() {
     let mut number = 0;
-    while number < 18 {
+    while number < 21 {
         say_refusal(b"file", number, 7);
         number += 1;
     }

@@ -8,12 +8,12 @@ ghost use lib.ListN.{length};
 ghost use Rattle.io.specs.Counts.{Counts};
 ghost use Rattle.check_commands.specs.Keys.{keyOf, wordsOf};
 
-// The key of a step by its word: the first letter, or the second of a word that begins with s.
+// The key of a step by its word: the first letter, or the third of a word that begins with s.
 pub fn key_of(word: &[u8; 4096]) -> u8
     ensures { λ r. ⌜ r ≡ keyOf (now (word .entry)) ⌝ }
 {
     if word[0] == b's' {
-        return word[1];
+        return word[2];
     }
     word[0]
 }
@@ -25,10 +25,11 @@ pub fn words_of(key: u8) -> usize
     match key {
         b'a' => 4,
         b'l' => 2,
-        b'i' => 16,
+        b'm' => 16,
         b'r' => 9,
-        b'h' => 2,
+        b'o' => 2,
         b'p' => 3,
+        b'h' => 5,
         b'e' => 3,
         _ => 1,
     }

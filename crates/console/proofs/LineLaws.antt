@@ -38,18 +38,18 @@ counted-put kind n at p q d e f g pe qe first second third =
 -- ---- the words of a number
 
 -- A number that has no words.
-pub none-above : (n : ℕ) → 17 ≤ n → sentence n ≡ []
+pub none-above : (n : ℕ) → 20 ≤ n → sentence n ≡ []
 unfolding sentence sentences
 none-above n h = List·getD-eq-default sentences [] h
 
 -- The table's rows are as long, by a test computed over it.
-pub rows-length : (rows : List (List ℕ)) (d : List ℕ) → allBelow (λ k. eqb (length (getD rows k d)) 111) 17 ≡ true → (n : ℕ) → n < 17 → length (getD rows n d) ≡ 111
-rows-length rows d e n h = eqb-true _ _ (below (λ k. eqb (length (getD rows k d)) 111) 17 e n h)
+pub rows-length : (rows : List (List ℕ)) (d : List ℕ) → allBelow (λ k. eqb (length (getD rows k d)) 111) 20 ≡ true → (n : ℕ) → n < 20 → length (getD rows n d) ≡ 111
+rows-length rows d e n h = eqb-true _ _ (below (λ k. eqb (length (getD rows k d)) 111) 20 e n h)
 
 -- The longest is that of number 9.
-pub sentence-most : (n : ℕ) → n < 17 → length (sentence n) ≤ 111
+pub sentence-most : (n : ℕ) → n < 20 → length (sentence n) ≤ 111
 unfolding sentence
-sentence-most = most-rule (λ k. length (sentence k)) 111 17 refl
+sentence-most = most-rule (λ k. length (sentence k)) 111 20 refl
 
 -- ---- the place
 

@@ -1,6 +1,6 @@
--- The line that is said of a refusal: the file, the line or the word, document 01's number, and its question in words.
+-- The line that is said of a refusal: the file, the line or the word, the number of document 01 or 02, and its question in words.
 use Prim.Native.Nat.{ℕ}
-use mathlib.Core.Bool.{Bool, cond, _&&_}
+use mathlib.Core.Bool.{Bool, cond, _&&_, _||_}
 use mathlib.Core.List.{List, [], _∷_, _++_}
 use lib.Dec.{eqb, leb, ltb}
 use lib.ListN.{getD}
@@ -44,15 +44,25 @@ sentences =
     ∷ bytes "the text does not fit"
     -- "opcode at most 21? 16"
     ∷ bytes "the opcode names no operation (it is at most 21)"
+    -- "a wrong form, digit or checksum, an end record with data or text after it (17)"
+    ∷ bytes "the line is no Intel HEX record (wrong form, digit or checksum), or an end record with data or text after it"
+    -- "another type or a missing end (18, at the line after the last)"
+    ∷ bytes "the record is of another type than 00 (data) and 01 (end), or the end record :00000001FF is missing"
+    -- "a byte past the memory or a first address not above the last byte named before it (19, never for a record without bytes)"
+    ∷ bytes "the record names a byte past the memory (data 16384 bytes, disk 65536), or one not above the last named before"
     ∷ []
 
 unfoldable pub sentence : ℕ → List ℕ
 unfolding sentences
 sentence n = getD sentences n []
 
--- "a place (line from 1, listed word from 0, else 0)": 16 has a word; 2 to 12 have a line where the place is not 0; the others have no place.
+-- The numbers whose place is a line: 2 to 12, and document 02's 17 to 19.
+abbrev pub isOfLine : ℕ → Bool
+isOfLine number = (leb 2 number && leb number 12) || (leb 17 number && leb number 19)
+
+-- "a place (line from 1, listed word from 0, else 0)": 16 has a word; these have a line where the place is not 0; the others have no place.
 abbrev pub hasLine : ℕ → ℕ → Bool
-hasLine number place = leb 2 number && leb number 12 && ltb 0 place
+hasLine number place = isOfLine number && ltb 0 place
 
 -- What is counted, its number, and a colon and a blank after them.
 abbrev pub counted : List ℕ → ℕ → List ℕ

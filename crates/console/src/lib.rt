@@ -1,6 +1,6 @@
 // What programs at a command line share: files read whole, files written beside the old ones and put in their places, the names of files in
-// arguments, and lines on standard output, among them one for each of document 01's refusals. A program calls `open_missing_standard_streams` first, so that no
-// line lands in a file.
+// arguments, and lines on standard output, among them one for each refusal of documents 01 and 02. A program calls `open_missing_standard_streams` first, so
+// that no line lands in a file.
 mod arguments;
 mod more;
 mod old;

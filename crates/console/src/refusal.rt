@@ -62,13 +62,11 @@ fn put_place(out: &mut [u8], at: usize, number: u32, place: usize) -> usize
 fn has_line(number: u32, place: usize) -> bool
     ensures { λ r. ⌜ r ≡ hasLine number place ⌝ }
 {
-    if number < 2 {
-        return false;
+    match number {
+        2..=12 => 0 < place,
+        17..=19 => 0 < place,
+        _ => false,
     }
-    if 12 < number {
-        return false;
-    }
-    0 < place
 }
 
 // Puts what is counted and its number, and a colon and a blank after them; returns the place after these.

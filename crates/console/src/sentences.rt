@@ -1,4 +1,4 @@
-// What is wrong, in words, for each of document 01's numbers.
+// What is wrong, in words, for each of the numbers of documents 01 and 02.
 use text::place::put_bytes;
 ghost use mathlib.Core.Path.{_≡_};
 ghost use Prim.Native.Nat.{_+_, _≤_, _<_};
@@ -7,7 +7,7 @@ ghost use Rattle.text.specs.Place.{PutsWithin};
 ghost use Rattle.console.specs.Refusals.{sentence};
 
 // The sentences by their numbers, each filled up with blanks to 111 bytes, ..
-const SENTENCES: [[u8; 111]; 17] = [
+const SENTENCES: [[u8; 111]; 20] = [
     *b"                                                                                                               ",
     *b"the length is wrong (a program has at most 262144 bytes, a saved record has 91)                                ",
     *b"the line has more than 500 bytes, or one that is neither a blank nor a visible ASCII character                 ",
@@ -25,10 +25,13 @@ const SENTENCES: [[u8; 111]; 17] = [
     *b"the saved record has another edition than 1                                                                    ",
     *b"the text does not fit                                                                                          ",
     *b"the opcode names no operation (it is at most 21)                                                               ",
+    *b"the line is no Intel HEX record (wrong form, digit or checksum), or an end record with data or text after it   ",
+    *b"the record is of another type than 00 (data) and 01 (end), or the end record :00000001FF is missing            ",
+    *b"the record names a byte past the memory (data 16384 bytes, disk 65536), or one not above the last named before ",
 ];
 
 // .. and how many bytes they have.
-const LENGTHS: [usize; 17] = [
+const LENGTHS: [usize; 20] = [
     0,
     79,
     94,
@@ -46,6 +49,9 @@ const LENGTHS: [usize; 17] = [
     43,
     21,
     48,
+    108,
+    99,
+    110,
 ];
 
 // Puts the words of a number at a place and returns the place after them; a number that has none puts nothing.
@@ -53,7 +59,7 @@ pub fn put_sentence(out: &mut [u8], at: usize, number: u32) -> usize
     requires { ⌜ at + 128 ≤ length (now out) ⌝ }
     ensures { λ r. ⌜ PutsWithin 128 (now (out .entry)) at (sentence number) r (now (out .exit)) ⌝ }
 {
-    if 16 < number {
+    if 19 < number {
         return at;
     }
     let n = number as usize;
@@ -64,7 +70,7 @@ pub fn put_sentence(out: &mut [u8], at: usize, number: u32) -> usize
 
 // The sentence of a number, and the blanks after it.
 fn sentence_row(n: usize) -> [u8; 111]
-    requires { ⌜ n < 17 ⌝ }
+    requires { ⌜ n < 20 ⌝ }
     ensures { λ r. ⌜ (length r ≡ 111) × (take (length (sentence n)) r ≡ sentence n) ⌝ }
 {
     SENTENCES[n]
@@ -72,7 +78,7 @@ fn sentence_row(n: usize) -> [u8; 111]
 
 // How many bytes the sentence of a number has; 111 at most.
 fn sentence_length(n: usize) -> usize
-    requires { ⌜ n < 17 ⌝ }
+    requires { ⌜ n < 20 ⌝ }
     ensures { λ r. ⌜ (r ≡ length (sentence n)) × (r ≤ 111) ⌝ }
 {
     LENGTHS[n]

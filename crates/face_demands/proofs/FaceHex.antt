@@ -8,6 +8,7 @@ use lib.Seq.{take-append-seam}
 use borrow.Author.Tests.{eq-eqb}
 use Rattle.text.specs.declared.Outcome.{Outcome}
 use Rattle.text.proofs.PutLaws.{put-front}
+use Rattle.files.specs.Sizes.{dataWords, diskWords}
 use Rattle.files.proofs.ReturnTrip.{text-written}
 use Rattle.intel_hex.specs.Writing.{hexText}
 use Rattle.intel_hex.proofs.ReturnTrip.{text-read, words-read}
@@ -29,4 +30,4 @@ hex-returns words fours few m out sent into after r count s place size below roo
     )
 
 pub face-hex : FaceHex
-face-hex = record { data-returns = hex-returns 4096 refl (omega arith); disk-returns = hex-returns 16384 refl (omega arith) }
+face-hex = record { data-returns = hex-returns dataWords refl (omega arith); disk-returns = hex-returns diskWords refl (omega arith) }

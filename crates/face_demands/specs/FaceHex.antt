@@ -1,4 +1,4 @@
--- Document 02 (ii) of the C face: "A written image reads back the same, for the data memory and for the 64 KiB disk." Of any two calls of its
+-- Document 02 (ii) of the C face: "A written image reads back the same, for the data memory and for the 64 KiB disk, .." Of any two calls of its
 -- functions, each known by its own contract alone.
 use Prim.Native.Nat.{ℕ, _^_, _≤_}
 use mathlib.Core.Path.{_≡_}

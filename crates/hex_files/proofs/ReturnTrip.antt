@@ -41,11 +41,11 @@ pub data-returns : (memory out d : List ℕ) (w : Written) (sent : List ℕ) (r 
     → TextWritten (isDataLength (length memory)) (hexText memory) out w sent
     → HexFileRead dataWords (take 45068 sent) d r after
     → (writtenOutcome w ≡ accepted 45068) × (hexReadOutcome r ≡ accepted 0) × (after ≡ memory)
-data-returns memory out d w sent r after size below room size′ p q = memory-returns 4096 refl (omega arith) memory out d w sent r after size below room size′ p q
+data-returns memory out d w sent r after size below room size′ p q = memory-returns dataWords refl (omega arith) memory out d w sent r after size below room size′ p q
 
 pub disk-returns : (disk out d : List ℕ) (w : Written) (sent : List ℕ) (r : HexRead) (after : List ℕ)
     → length disk ≡ diskWords → Below (2 ^ 32) disk → 180236 ≤ length out → length d ≡ diskWords
     → TextWritten (isDiskLength (length disk)) (hexText disk) out w sent
     → HexFileRead diskWords (take 180236 sent) d r after
     → (writtenOutcome w ≡ accepted 180236) × (hexReadOutcome r ≡ accepted 0) × (after ≡ disk)
-disk-returns disk out d w sent r after size below room size′ p q = memory-returns 16384 refl (omega arith) disk out d w sent r after size below room size′ p q
+disk-returns disk out d w sent r after size below room size′ p q = memory-returns diskWords refl (omega arith) disk out d w sent r after size below room size′ p q

@@ -1,4 +1,5 @@
 -- Laws of words from bytes. Assumes nothing.
+use Rattle.intel_hex.specs.Words.{firstWord, wordsOf}
 use Prim.Native.Nat.{ℕ, suc, _+_, _-_, _*_, _≤_, _<_}
 use mathlib.Core.Path.{_≡_}
 use mathlib.Core.List.{List, _++_, append-assoc, append-nil}
@@ -7,7 +8,6 @@ use native.Mathlib.Omega.{arith}
 use native.Mathlib.Numerals.{add-one}
 use lib.ListN.{length, getD, take, drop, set, drop-of-length-le}
 use lib.Seq.{drop-drop, getD-drop, take-suc-set, take-all}
-use Rattle.intel_hex.specs.Reading.{firstWord, wordsOf}
 
 pub word-is : (bs : List ℕ) (i : ℕ) → ((getD bs i 0 * 256 + getD bs (i + 1) 0) * 256 + getD bs (i + 2) 0) * 256 + getD bs (i + 3) 0 ≡ firstWord (drop i bs)
 word-is bs i = rw (getD-drop i bs 0 0, getD-drop i bs 1 0, getD-drop i bs 2 0, getD-drop i bs 3 0, add-zero)

@@ -14,13 +14,13 @@ use Rattle.text.specs.Place.{put}
 use Rattle.text.proofs.Truth.{and-left, and-right}
 use Rattle.text.proofs.PutLaws.{length-put}
 use Rattle.text.proofs.RangeLaws.{below-mod}
-use Rattle.intel_hex.specs.declared.Found.{Found}
+use Rattle.intel_hex.specs.declared.record.Found.{Found}
 use Rattle.intel_hex.specs.declared.record.Head.{Head}
-use Rattle.intel_hex.specs.Record.{pairValues, total, recordBytes, dataCount, address, isRecord}
+use Rattle.intel_hex.specs.Record.{pairValues, total, lineBytes, dataCount, address, isRecord}
 use Rattle.intel_hex.specs.Reading.{withoutCR}
-use Rattle.intel_hex.specs.Promises.{isPair, pairValue, isHead, HeadRead, firstRecord, recordEnd, nothingFound, RecordFound}
+use Rattle.intel_hex.specs.Steps.{isPair, pairValue, isHead, HeadRead, firstRecord, recordEnd, nothingFound, RecordFound}
 use Rattle.intel_hex.proofs.PairLaws.{values-below}
-use Rattle.intel_hex.proofs.RecordLaws.{head-bytes, recordStop, dataDigits, front-record, front-data, record-head, same-count, same-address, same-type, stands, on-line}
+use Rattle.intel_hex.proofs.RecordLaws.{head-bytes, recordStop, dataDigits, front-record, front-data, record-head, same-count, same-address, same-kind, stands, on-line}
 
 -- ---- the pairs before the data
 
@@ -71,7 +71,7 @@ module _ (s : List ℕ) where
   pub cut-off : (count : ℕ) → 11 ≤ length s → count ≡ pairValue s 1 → length s < 2 * count + 11 → NoRecord
   cut-off count h e cut good =
       let fits = stands s good .fits in
-      let same : dataCount (recordBytes s) ≡ pairValue s 1 = rw (head-bytes s (omega arith)) in
+      let same : dataCount (lineBytes s) ≡ pairValue s 1 = rw (head-bytes s (omega arith)) in
       omega arith
 
   pub nothing-there : (bytes : List ℕ) (f : Found) → NoRecord → f ≡ nothingFound → RecordFound s bytes f bytes
@@ -85,7 +85,7 @@ module _ (s : List ℕ) where
         line-end = λ g. absurd (never g);
         count-is = λ g. absurd (never g);
         address-is = λ g. absurd (never g);
-        type-is = λ g. absurd (never g);
+        kind-is = λ g. absurd (never g);
         bytes = λ g. absurd (never g);
       }
     where
@@ -101,9 +101,9 @@ both true b f g = sym (f refl)
 both false true f g = g refl
 both false false f g = refl
 
-no-bytes : (s : List ℕ) → length (firstLine s) ≡ 0 → length (firstRecord s) ≡ 0
+no-line : (s : List ℕ) → length (firstLine s) ≡ 0 → length (firstRecord s) ≡ 0
 unfolding withoutCR
-no-bytes s e = go (firstLine s) e
+no-line s e = go (firstLine s) e
   where
     go : (l : List ℕ) → length l ≡ 0 → length (withoutCR l) ≡ 0
     go [] e = refl
@@ -138,7 +138,7 @@ module _ (s : List ℕ) (n : ℕ) (count : n ≡ recordStop s) (fits : n ≤ len
           let line = on-front good in
           let here : front ≡ true = sym (front-record s n count fits head) ∙ rw (← (line .0)) good in
           let size : length (firstRecord s) ≡ n = ap length (line .0) ∙ length-take-le n s fits in
-          let some = ne-eqb (recordEnd s n) 0 (λ z. let none = no-bytes s (sym (line .1) ∙ z) in omega arith) in
+          let some = ne-eqb (recordEnd s n) 0 (λ z. let none = no-line s (sym (line .1) ∙ z) in omega arith) in
           rw (here, some)
 
   pub found-there : (before after : List ℕ) (dg lg : Bool) (hs ds ls end c a k : ℕ)
@@ -160,7 +160,7 @@ module _ (s : List ℕ) (n : ℕ) (count : n ≡ recordStop s) (fits : n ≤ len
         line-end = λ g. eend ∙ line g .1;
         count-is = λ g. ec ∙ rw (line g .0, same-count s n nine fits, head-bytes s (omega arith));
         address-is = λ g. ea ∙ rw (line g .0, same-address s n nine fits);
-        type-is = λ g. ek ∙ rw (line g .0, same-type s n nine fits);
+        kind-is = λ g. ek ∙ rw (line g .0, same-kind s n nine fits);
         bytes = λ g.
             let all = sym edg ∙ and-left dg lg (and-left (dg && lg) _ (and-left (dg && lg && eqb ((hs + ds + ls) % 256) 0) _ g)) in
             eafter ∙ rw (line g .0, same-address s n nine fits, front-data s n count fits, ea, below-mod 256 (pairValues digits) (values-below digits all));

@@ -11,9 +11,9 @@ use borrow.Author.Tests.{eq-eqb, ne-eqb, le-leb, lt-leb, not-true, not-false}
 use Rattle.text.specs.declared.Outcome.{Outcome}
 use Rattle.text.specs.Questions.{accepted, refused, firstNo, firstBad}
 use Rattle.text.proofs.Truth.{and-right}
-use Rattle.intel_hex.specs.declared.Found.{Found}
-use Rattle.intel_hex.specs.Promises.{foundOutcome}
-use Rattle.intel_hex.specs.Record.{recordBytes, dataCount, address, type, isRecord}
+use Rattle.intel_hex.specs.declared.record.Found.{Found}
+use Rattle.intel_hex.specs.Steps.{foundOutcome}
+use Rattle.intel_hex.specs.Record.{lineBytes, dataCount, address, kind, isRecord}
 use Rattle.intel_hex.specs.Reading.{isEnd, isRightEnd, isReadType, isPlaced, recordQuestions, freeAfter, freeAfterAll, lineQuestions, hasEnd, recordsOutcome}
 
 -- There are no lines.
@@ -27,21 +27,21 @@ unfoldable pub told : (room free i : ℕ) → List (List ℕ) → Outcome
 told room free i [] = refused 18 (i + 1)
 told room free i (l ∷ ls) =
     firstNo (recordQuestions room free (isNone ls) l) (i + 1)
-    (cond (isEnd (type (recordBytes l))) (accepted 0) (told room (freeAfter free (recordBytes l)) (i + 1) ls))
+    (cond (isEnd (kind (lineBytes l))) (accepted 0) (told room (freeAfter free (lineBytes l)) (i + 1) ls))
 
 -- ---- one line more
 
 -- The address after the last byte named, one line later.
-free-more : (free : ℕ) (ls : List (List ℕ)) (l : List ℕ) → freeAfterAll free (ls ++ (l ∷ [])) ≡ freeAfter (freeAfterAll free ls) (recordBytes l)
+free-more : (free : ℕ) (ls : List (List ℕ)) (l : List ℕ) → freeAfterAll free (ls ++ (l ∷ [])) ≡ freeAfter (freeAfterAll free ls) (lineBytes l)
 unfolding freeAfterAll
 free-more free [] l = refl
-free-more free (k ∷ ls) l = free-more (freeAfter free (recordBytes k)) ls l
+free-more free (k ∷ ls) l = free-more (freeAfter free (lineBytes k)) ls l
 
 -- An end stands among two lists where it stands in one of them.
 end-either : (a b : List (List ℕ)) → hasEnd (a ++ b) ≡ (hasEnd a || hasEnd b)
 unfolding hasEnd
 end-either [] b = refl
-end-either (l ∷ a) b = go (isEnd (type (recordBytes l))) (end-either a b)
+end-either (l ∷ a) b = go (isEnd (kind (lineBytes l))) (end-either a b)
   where
     go : (t : Bool) → hasEnd (a ++ b) ≡ (hasEnd a || hasEnd b) → (t || hasEnd (a ++ b)) ≡ ((t || hasEnd a) || hasEnd b)
     go true e = refl
@@ -63,12 +63,12 @@ after-yes false x y z e = refl
 
 -- .. so what follows a record counts only where it gets a yes to its first question.
 module _ (room free : ℕ) (isLast : Bool) (l : List ℕ) (line : ℕ) (x y : Outcome) where
-  after-record : ((isRecord l && isRightEnd isLast (type (recordBytes l)) (dataCount (recordBytes l))) ≡ true → x ≡ y)
+  after-record : ((isRecord l && isRightEnd isLast (kind (lineBytes l)) (dataCount (lineBytes l))) ≡ true → x ≡ y)
       → firstNo (recordQuestions room free isLast l) line x ≡ firstNo (recordQuestions room free isLast l) line y
   after-record e =
-      let b = recordBytes l in
-      after-yes (isRecord l && isRightEnd isLast (type b) (dataCount b)) _ _ _
-      (λ a. ap (λ (o : Outcome). firstNo ((18, isReadType (type b)) ∷ (19, isPlaced room free (address b) (dataCount b)) ∷ []) line o) (e a))
+      let b = lineBytes l in
+      after-yes (isRecord l && isRightEnd isLast (kind b) (dataCount b)) _ _ _
+      (λ a. ap (λ (o : Outcome). firstNo ((18, isReadType (kind b)) ∷ (19, isPlaced room free (address b) (dataCount b)) ∷ []) line o) (e a))
 
 -- ---- all lines
 
@@ -84,14 +84,14 @@ module _ (room : ℕ) (all : List (List ℕ)) where
       let front : take (length done) all ≡ done = ap (take (length done)) e ∙ take-append-seam done (l ∷ ls) in
       let last : eqb (length done + 1) (length all) ≡ isNone ls = ap (λ (a : List (List ℕ)). eqb (length done + 1) (length a)) e ∙ last-is done l ls in
       let more = told-from (done ++ (l ∷ [])) ls (e ∙ sym (append-snoc done l ls)) in
-      rw (front, last) (after-record room (freeAfterAll 0 done) (isNone ls) l (length done + 1) _ _ (next (isEnd (type (recordBytes l))) refl more))
+      rw (front, last) (after-record room (freeAfterAll 0 done) (isNone ls) l (length done + 1) _ _ (next (isEnd (kind (lineBytes l))) refl more))
     where
-      next : (t : Bool) → isEnd (type (recordBytes l)) ≡ t
+      next : (t : Bool) → isEnd (kind (lineBytes l)) ≡ t
           → (hasEnd (done ++ (l ∷ [])) ≡ false → left (length (done ++ (l ∷ []))) ls ≡ told room (freeAfterAll 0 (done ++ (l ∷ []))) (length (done ++ (l ∷ []))) ls)
-          → (isRecord l && (not t || (eqb (dataCount (recordBytes l)) 0 && isNone ls))) ≡ true
-          → left (length done + 1) ls ≡ cond t (accepted 0) (told room (freeAfter (freeAfterAll 0 done) (recordBytes l)) (length done + 1) ls)
+          → (isRecord l && (not t || (eqb (dataCount (lineBytes l)) 0 && isNone ls))) ≡ true
+          → left (length done + 1) ls ≡ cond t (accepted 0) (told room (freeAfter (freeAfterAll 0 done) (lineBytes l)) (length done + 1) ls)
       next true q more a =
-          let none = none-is ls (and-right (eqb (dataCount (recordBytes l)) 0) (isNone ls) (and-right (isRecord l) _ a)) in
+          let none = none-is ls (and-right (eqb (dataCount (lineBytes l)) 0) (isNone ls) (and-right (isRecord l) _ a)) in
           let found : hasEnd all ≡ true = ap hasEnd e ∙ end-either done (l ∷ ls) ∙ rw (h, q) in
           rw (none, found)
       next false q more a =

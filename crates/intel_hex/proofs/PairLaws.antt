@@ -16,7 +16,7 @@ use Rattle.text.specs.Ranges.{Below}
 use Rattle.text.proofs.Truth.{and-left, and-right}
 use Rattle.text.proofs.PutLaws.{put-nil, put-one, put-append}
 use Rattle.intel_hex.specs.Record.{pairValues, total}
-use Rattle.intel_hex.specs.Promises.{isPair, pairValue}
+use Rattle.intel_hex.specs.Steps.{isPair, pairValue}
 
 -- ---- one digit
 

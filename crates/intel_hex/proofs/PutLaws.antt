@@ -15,8 +15,9 @@ use Rattle.text.specs.Place.{put}
 use Rattle.text.proofs.DigitLaws.{length-digits, digits-split, digits-low}
 use Rattle.text.proofs.PutLaws.{put-nil, put-append}
 use Rattle.text.proofs.PieceLaws.{more, after-store, store-after}
+use Rattle.intel_hex.specs.Words.{wordBytes, memoryBytes}
 use Rattle.intel_hex.specs.Record.{total}
-use Rattle.intel_hex.specs.Writing.{wordBytes, memoryBytes, bytePairs, dataRecord, recordLine, dataLines, endLine, hexText}
+use Rattle.intel_hex.specs.Writing.{bytePairs, dataRecord, recordLine, dataLines, endLine, hexText}
 use Rattle.intel_hex.proofs.PairLaws.{total-append}
 use Rattle.intel_hex.proofs.WrittenLaws.{length-pairs, length-line}
 
@@ -110,8 +111,8 @@ module _ (ws : List ℕ) (i : ℕ) where
 -- ---- a record
 
 -- Count, address and type of 16 data bytes are the bytes of one word.
-head-bytes : (a : ℕ) → a < 65536 → wordBytes (a * 256 + 0x10000000) ≡ 16 ∷ a / 256 ∷ a % 256 ∷ 0 ∷ []
-head-bytes a h =
+head-word : (a : ℕ) → a < 65536 → wordBytes (a * 256 + 0x10000000) ≡ 16 ∷ a / 256 ∷ a % 256 ∷ 0 ∷ []
+head-word a h =
     let b0 : (a * 256 + 0x10000000) / 0x1000000 % 256 ≡ 16 = omega arith in
     let b1 : (a * 256 + 0x10000000) / 0x10000 % 256 ≡ a / 256 = omega arith in
     let b2 : (a * 256 + 0x10000000) / 256 % 256 ≡ a % 256 = omega arith in
@@ -132,7 +133,7 @@ line-is ws a sum four h e =
     let head : List ℕ = 16 ∷ a / 256 ∷ a % 256 ∷ 0 ∷ [] in
     let last = (256 - sum % 256) % 256 in
     let count : length bs ≡ 16 = length-bytes ws ∙ rw four in
-    let front : digits 16 8 (a * 256 + 0x10000000) ≡ bytePairs head = word-digits (a * 256 + 0x10000000) ∙ ap bytePairs (head-bytes a h) in
+    let front : digits 16 8 (a * 256 + 0x10000000) ≡ bytePairs head = word-digits (a * 256 + 0x10000000) ∙ ap bytePairs (head-word a h) in
     let all : sum ≡ total (16 ∷ a / 256 ∷ a % 256 ∷ 0 ∷ bs) = omega arith in
     let whole : bytePairs (head ++ (bs ++ (last ∷ []))) ≡ bytePairs head ++ (bytePairs bs ++ digits 16 2 last) =
     pairs-append head (bs ++ (last ∷ [])) ∙ rw (pairs-append bs (last ∷ []), one-pair last) in

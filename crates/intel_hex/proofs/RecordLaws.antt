@@ -15,9 +15,9 @@ use Rattle.text.specs.Numerals.{digitValue, allDigits}
 use Rattle.text.specs.Lines.{LF, firstLine, endsLine}
 use Rattle.text.proofs.Truth.{and-left, and-right}
 use Rattle.text.proofs.LineLaws.{NoLF, digits-no-lf, first-le, first-front, first-ends, first-is}
-use Rattle.intel_hex.specs.Record.{pairValues, total, recordBytes, dataCount, address, type, dataBytes, hasForm, hasDigits, hasChecksum, isRecord}
+use Rattle.intel_hex.specs.Record.{pairValues, total, lineBytes, dataCount, address, kind, dataBytes, hasForm, hasDigits, hasChecksum, isRecord}
 use Rattle.intel_hex.specs.Reading.{CR, withoutCR}
-use Rattle.intel_hex.specs.Promises.{isPair, pairValue, isHead, firstRecord, recordEnd}
+use Rattle.intel_hex.specs.Steps.{isPair, pairValue, isHead, firstRecord, recordEnd}
 use Rattle.intel_hex.proofs.PairLaws.{two-first, digits-first, values-first, digits-append, values-append, length-values, total-append}
 
 -- ---- what a record has
@@ -35,7 +35,7 @@ module _ (l : List ℕ) (good : isRecord l ≡ true) where
   pub record-colon : getD l 0 0 ≡ code ":"
   record-colon = eqb-true _ _ (and-left (eqb (getD l 0 0) (code ":")) _ (parts .0))
 
-  pub record-length : length l ≡ 2 * dataCount (recordBytes l) + 11
+  pub record-length : length l ≡ 2 * dataCount (lineBytes l) + 11
   record-length = eqb-true _ _ (and-right (eqb (getD l 0 0) (code ":")) _ (parts .0))
 
   pub record-digits : allDigits 16 (drop 1 l) ≡ true
@@ -44,7 +44,7 @@ module _ (l : List ℕ) (good : isRecord l ≡ true) where
 -- ---- its first bytes
 
 -- The four bytes before the data are the first four pairs.
-pub head-bytes : (s : List ℕ) → 9 ≤ length s → recordBytes s ≡ pairValue s 1 ∷ pairValue s 3 ∷ pairValue s 5 ∷ pairValue s 7 ∷ pairValues (drop 9 s)
+pub head-bytes : (s : List ℕ) → 9 ≤ length s → lineBytes s ≡ pairValue s 1 ∷ pairValue s 3 ∷ pairValue s 5 ∷ pairValue s 7 ∷ pairValues (drop 9 s)
 head-bytes s h =
     values-first s 1 (omega arith)
     ∙ rw (values-first s 3 (omega arith), values-first s 5 (omega arith), values-first s 7 (omega arith))
@@ -54,19 +54,19 @@ module _ (s : List ℕ) (n : ℕ) (h : 9 ≤ n) (fits : n ≤ length s) where
   same-pair : (i : ℕ) → i + 1 < n → pairValue (take n s) i ≡ pairValue s i
   same-pair i k = rw (getD-take n s i 0 (omega arith), getD-take n s (i + 1) 0 k)
 
-  pub front-bytes : recordBytes (take n s) ≡ pairValue s 1 ∷ pairValue s 3 ∷ pairValue s 5 ∷ pairValue s 7 ∷ pairValues (drop 9 (take n s))
+  pub front-bytes : lineBytes (take n s) ≡ pairValue s 1 ∷ pairValue s 3 ∷ pairValue s 5 ∷ pairValue s 7 ∷ pairValues (drop 9 (take n s))
   front-bytes =
       head-bytes (take n s) (rw (length-take-le n s fits) h)
       ∙ rw (same-pair 1 (omega arith), same-pair 3 (omega arith), same-pair 5 (omega arith), same-pair 7 (omega arith))
 
-  pub same-count : dataCount (recordBytes (take n s)) ≡ dataCount (recordBytes s)
+  pub same-count : dataCount (lineBytes (take n s)) ≡ dataCount (lineBytes s)
   same-count = rw (front-bytes, head-bytes s (omega arith))
 
-  pub same-address : address (recordBytes (take n s)) ≡ pairValue s 3 * 256 + pairValue s 5
+  pub same-address : address (lineBytes (take n s)) ≡ pairValue s 3 * 256 + pairValue s 5
   same-address = rw front-bytes
 
-  pub same-type : type (recordBytes (take n s)) ≡ pairValue s 7
-  same-type = rw front-bytes
+  pub same-kind : kind (lineBytes (take n s)) ≡ pairValue s 7
+  same-kind = rw front-bytes
 
   front-digits : allDigits 16 (drop 1 (take n s)) ≡ (isPair s 1 && (isPair s 3 && (isPair s 5 && (isPair s 7 && allDigits 16 (drop 9 (take n s))))))
   front-digits =
@@ -90,14 +90,14 @@ module _ (s : List ℕ) (n : ℕ) (h : 9 ≤ n) (fits : n ≤ length s) where
 
 -- The place where the record at the front of a text ends, by its count.
 abbrev pub recordStop : List ℕ → ℕ
-recordStop s = 2 * dataCount (recordBytes s) + 11
+recordStop s = 2 * dataCount (lineBytes s) + 11
 
 -- A front that ends at n: the digits of its data, and the pair of its checksum.
 module _ (s : List ℕ) (n : ℕ) (count : n ≡ recordStop s) (fits : n ≤ length s) where
   abbrev pub dataDigits : List ℕ
   dataDigits = take (n - 2 - 9) (drop 9 s)
 
-  pub length-data : length dataDigits ≡ 2 * dataCount (recordBytes s)
+  pub length-data : length dataDigits ≡ 2 * dataCount (lineBytes s)
   length-data = length-take-le (n - 2 - 9) (drop 9 s) (rw length-drop (omega arith)) ∙ omega arith
 
   tail-is : drop 9 (take n s) ≡ dataDigits ++ (getD s (n - 2) 0 ∷ getD s (n - 2 + 1) 0 ∷ [])
@@ -113,16 +113,16 @@ module _ (s : List ℕ) (n : ℕ) (count : n ≡ recordStop s) (fits : n ≤ len
 
   tail-values : pairValues (drop 9 (take n s)) ≡ pairValues dataDigits ++ (pairValue s (n - 2) ∷ [])
   unfolding pairValues
-  tail-values = ap pairValues tail-is ∙ values-append (dataCount (recordBytes s)) dataDigits (getD s (n - 2) 0 ∷ getD s (n - 2 + 1) 0 ∷ []) length-data
+  tail-values = ap pairValues tail-is ∙ values-append (dataCount (lineBytes s)) dataDigits (getD s (n - 2) 0 ∷ getD s (n - 2 + 1) 0 ∷ []) length-data
 
-  pub front-data : dataBytes (recordBytes (take n s)) ≡ pairValues dataDigits
+  pub front-data : dataBytes (lineBytes (take n s)) ≡ pairValues dataDigits
   front-data =
-      let size : length (pairValues dataDigits) ≡ dataCount (recordBytes s) = length-values (dataCount (recordBytes s)) dataDigits length-data in
+      let size : length (pairValues dataDigits) ≡ dataCount (lineBytes s) = length-values (dataCount (lineBytes s)) dataDigits length-data in
       let nine : 9 ≤ n = omega arith in
-      let same : pairValue s 1 ≡ dataCount (recordBytes s) = rw (head-bytes s (omega arith)) in
-      rw (front-bytes s n nine fits, tail-values, same) (take-at (pairValues dataDigits) (pairValue s (n - 2) ∷ []) (dataCount (recordBytes s)) size)
+      let same : pairValue s 1 ≡ dataCount (lineBytes s) = rw (head-bytes s (omega arith)) in
+      rw (front-bytes s n nine fits, tail-values, same) (take-at (pairValues dataDigits) (pairValue s (n - 2) ∷ []) (dataCount (lineBytes s)) size)
 
-  front-total : total (recordBytes (take n s)) ≡ pairValue s 1 + pairValue s 3 + pairValue s 5 + pairValue s 7 + total (pairValues dataDigits) + pairValue s (n - 2)
+  front-total : total (lineBytes (take n s)) ≡ pairValue s 1 + pairValue s 3 + pairValue s 5 + pairValue s 7 + total (pairValues dataDigits) + pairValue s (n - 2)
   unfolding total
   front-total =
       let nine : 9 ≤ n = omega arith in
@@ -231,7 +231,7 @@ module _ (s : List ℕ) (good : isRecord (firstRecord s) ≡ true) where
   stop-is n fits e =
       let size : length (firstRecord s) ≡ n = ap length e ∙ length-take-le n s fits in
       let long = record-length (firstRecord s) good in
-      let count = ap (λ (l : List ℕ). dataCount (recordBytes l)) e ∙ same-count s n (omega arith) fits in
+      let count = ap (λ (l : List ℕ). dataCount (lineBytes l)) e ∙ same-count s n (omega arith) fits in
       omega arith
 
   pub stands : Stands

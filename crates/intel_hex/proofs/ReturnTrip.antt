@@ -15,14 +15,15 @@ use Rattle.text.specs.Ranges.{Below}
 use Rattle.text.proofs.PutLaws.{put-nil, put-append, put-all}
 use Rattle.text.proofs.RangeLaws.{below-append, below-part}
 use Rattle.text.proofs.LineLaws.{NoneLF, lines-unlines}
+use Rattle.intel_hex.specs.Words.{firstWord, wordsOf, wordBytes, memoryBytes}
 use Rattle.intel_hex.specs.declared.HexRead.{HexRead}
-use Rattle.intel_hex.specs.Record.{pairValues, total, recordBytes, address, dataBytes, isRecord}
-use Rattle.intel_hex.specs.Reading.{withoutCR, recordLines, recordsOutcome, hexOutcome, putRecords, firstWord, wordsOf, hexWords}
-use Rattle.intel_hex.specs.Writing.{wordBytes, memoryBytes, bytePairs, dataRecord, recordLine, dataLines, endLine, hexText}
+use Rattle.intel_hex.specs.Record.{pairValues, total, lineBytes, address, dataBytes, isRecord}
+use Rattle.intel_hex.specs.Reading.{withoutCR, recordLines, recordsOutcome, hexOutcome, putRecords, hexWords}
+use Rattle.intel_hex.specs.Writing.{bytePairs, dataRecord, recordLine, dataLines, endLine, hexText}
 use Rattle.intel_hex.specs.Answers.{hexReadOutcome}
 use Rattle.intel_hex.specs.Promises.{HexFileRead}
 use Rattle.intel_hex.proofs.OutcomeLaws.{told, told-is}
-use Rattle.intel_hex.proofs.WrittenLaws.{line-no-lf, line-no-cr, data-count, data-address, data-type, data-data, data-record}
+use Rattle.intel_hex.proofs.WrittenLaws.{line-no-lf, line-no-cr, data-count, data-address, data-kind, data-data, data-record}
 use Rattle.intel_hex.proofs.PutLaws.{length-bytes, allLines}
 
 -- ---- words and their bytes
@@ -48,7 +49,7 @@ word-back w h =
     let top : w / 0x1000000 < 256 = omega arith in
     rw (mod-eq-of-lt top, ← third, ← second, div-add-mod' (w / 256 / 256) 256, div-add-mod' (w / 256) 256, div-add-mod' w 256)
 
-words-back : (ws : List ℕ) → Below (2 ^ 32) ws → wordsOf (length ws) (memoryBytes ws) ≡ ws
+pub words-back : (ws : List ℕ) → Below (2 ^ 32) ws → wordsOf (length ws) (memoryBytes ws) ≡ ws
 unfolding memoryBytes wordsOf
 words-back [] h = refl
 words-back (w ∷ ws) h =
@@ -83,11 +84,11 @@ lines-back m =
 -- ---- they are good, and put the bytes
 
 -- Where no record is left no byte is; the end puts none.
-no-bytes : (bs : List ℕ) → length bs ≡ 16 * 0 → bs ≡ []
-no-bytes [] e = refl
-no-bytes (b ∷ bs) e = absurd (omega arith)
+none-left : (bs : List ℕ) → length bs ≡ 16 * 0 → bs ≡ []
+none-left [] e = refl
+none-left (b ∷ bs) e = absurd (omega arith)
 
-end-puts : (memory : List ℕ) → put memory (address (recordBytes endLine)) (dataBytes (recordBytes endLine)) ≡ memory
+end-puts : (memory : List ℕ) → put memory (address (lineBytes endLine)) (dataBytes (lineBytes endLine)) ≡ memory
 unfolding pairValues put
 end-puts memory = refl
 
@@ -116,7 +117,7 @@ lines-told room within (suc n) at free i bs low fits size small =
     let first = first-size n bs size in
     let few : length (take 16 bs) < 256 = rw first (omega arith) in
     let sb = first-small bs small in
-    rw (data-record at (take 16 bs) high few sb, data-type at (take 16 bs) high few sb, data-count at (take 16 bs) high few sb, data-address at (take 16 bs) high few sb, first, le-leb free at low, le-leb (at + 16) room (omega arith))
+    rw (data-record at (take 16 bs) high few sb, data-kind at (take 16 bs) high few sb, data-count at (take 16 bs) high few sb, data-address at (take 16 bs) high few sb, first, le-leb free at low, le-leb (at + 16) room (omega arith))
     (lines-told room within n (at + 16) (at + 16) (i + 1) (drop 16 bs) (omega arith) (omega arith) (rest-size n bs size) (rest-small bs small))
 
 -- A data record puts its data, ..
@@ -124,14 +125,14 @@ put-first : (at : ℕ) (bs : List ℕ) → at < 65536 → length bs < 256 → Be
     → putRecords memory (recordLine (dataRecord at bs) ∷ ls) ≡ putRecords (put memory at bs) ls
 unfolding putRecords
 put-first at bs high few small memory ls =
-    ap (λ (a : ℕ). putRecords (put memory a (dataBytes (recordBytes (recordLine (dataRecord at bs))))) ls) (data-address at bs high few small)
+    ap (λ (a : ℕ). putRecords (put memory a (dataBytes (lineBytes (recordLine (dataRecord at bs))))) ls) (data-address at bs high few small)
     ∙ ap (λ (d : List ℕ). putRecords (put memory at d) ls) (data-data at bs high few small)
 
 -- .. and all of them put the bytes that they were made of.
 lines-put : (n at : ℕ) (bs memory : List ℕ) → at + 16 * n ≤ 65536 → length bs ≡ 16 * n → Below 256 bs
     → putRecords memory (allLines n at bs) ≡ put memory at bs
 unfolding putRecords dataLines
-lines-put zero at bs memory fits size small = rw (no-bytes bs size, put-nil, end-puts memory)
+lines-put zero at bs memory fits size small = rw (none-left bs size, put-nil, end-puts memory)
 lines-put (suc n) at bs memory fits size small =
     let high : at < 65536 = omega arith in
     let first = first-size n bs size in
@@ -173,4 +174,4 @@ module _ (m : List ℕ) (fours : length m % 4 ≡ 0) (within : 4 * length m ≤ 
   reading small words d r after size size′ p =
       let good = text-read words (length d) size size′ in
       let same : length d ≡ length m = size ∙ sym size′ in
-      (p .answer ∙ good, rw good at (p .words-are) ∙ rw same (words-read small))
+      (p .answer ∙ good, rw good at (p .words) ∙ rw same (words-read small))

@@ -16,8 +16,9 @@ use Rattle.text.specs.Numerals.{isBetween, digitValue, allDigits}
 use Rattle.text.specs.Lines.{LF, lines, inFront}
 use Rattle.text.proofs.Truth.{and-left, and-right, between}
 use Rattle.text.proofs.LineLaws.{NoneLF, lines-line}
-use Rattle.intel_hex.specs.Record.{pairValues, recordBytes, address, dataBytes, isRecord}
-use Rattle.intel_hex.specs.Reading.{CR, withoutCR, recordLines, freeAfter, hexOutcome, putRecords, wordsOf, hexWords}
+use Rattle.intel_hex.specs.Words.{wordsOf}
+use Rattle.intel_hex.specs.Record.{pairValues, lineBytes, address, dataBytes, isRecord}
+use Rattle.intel_hex.specs.Reading.{CR, withoutCR, recordLines, freeAfter, hexOutcome, putRecords, hexWords}
 use Rattle.intel_hex.proofs.OutcomeLaws.{isNone, told, told-is}
 
 -- The same is read from two texts, into whatever memory: they tell the same, and give the same words.
@@ -28,7 +29,7 @@ ReadSame t u = (words n : ℕ) → (hexOutcome words n t ≡ hexOutcome words n 
 
 -- All that reading looks at in a line: whether it is a record, and the record's bytes.
 abbrev pub seen : List ℕ → Bool × List ℕ
-seen l = (isRecord l, recordBytes l)
+seen l = (isRecord l, lineBytes l)
 
 -- What lines tell and put depends on that alone.
 none-seen : (ls ks : List (List ℕ)) → map seen ls ≡ map seen ks → isNone ls ≡ isNone ks
@@ -45,9 +46,9 @@ told-seen room free i (l ∷ ls) [] e = absurd (cons≢nil e)
 told-seen room free i (l ∷ ls) (k ∷ ks) e =
     let first : seen l ≡ seen k = head-eq-of-cons-eq e in
     let good : isRecord l ≡ isRecord k = ap (λ (s : Bool × List ℕ). s .0) first in
-    let same : recordBytes l ≡ recordBytes k = ap (λ (s : Bool × List ℕ). s .1) first in
+    let same : lineBytes l ≡ lineBytes k = ap (λ (s : Bool × List ℕ). s .1) first in
     let rest = tail-eq-of-cons-eq e in
-    rw (good, same, none-seen ls ks rest, told-seen room (freeAfter free (recordBytes k)) (i + 1) ls ks rest)
+    rw (good, same, none-seen ls ks rest, told-seen room (freeAfter free (lineBytes k)) (i + 1) ls ks rest)
 
 put-seen : (bytes : List ℕ) (ls ks : List (List ℕ)) → map seen ls ≡ map seen ks → putRecords bytes ls ≡ putRecords bytes ks
 unfolding putRecords
@@ -56,7 +57,7 @@ put-seen bytes [] (k ∷ ks) e = absurd (nil≢cons e)
 put-seen bytes (l ∷ ls) [] e = absurd (cons≢nil e)
 put-seen bytes (l ∷ ls) (k ∷ ks) e =
     ap (λ (s : Bool × List ℕ). putRecords (put bytes (address (s .1)) (dataBytes (s .1))) ls) (head-eq-of-cons-eq e)
-    ∙ put-seen (put bytes (address (recordBytes k)) (dataBytes (recordBytes k))) ls ks (tail-eq-of-cons-eq e)
+    ∙ put-seen (put bytes (address (lineBytes k)) (dataBytes (lineBytes k))) ls ks (tail-eq-of-cons-eq e)
 
 -- Texts whose lines look the same, one by one, read the same; ..
 pub same-seen : (t u : List ℕ) → map seen (recordLines t) ≡ map seen (recordLines u) → ReadSame t u
@@ -64,6 +65,10 @@ unfolding hexOutcome hexWords
 same-seen t u e words n =
     let told-same = told-is (4 * n) (recordLines t) ∙ told-seen (4 * n) 0 0 (recordLines t) (recordLines u) e ∙ sym (told-is (4 * n) (recordLines u)) in
     (ap (λ (o : Outcome). firstNo ((1, eqb n words) ∷ []) 0 o) told-same, ap (wordsOf n) (put-seen (replicate (4 * n) 0) (recordLines t) (recordLines u) e))
+
+-- One after the other: texts that differ in case, in CRs and in the last LF read the same.
+pub then-same : (t u v : List ℕ) → ReadSame t u → ReadSame u v → ReadSame t v
+then-same t u v p q words n = (p words n .0 ∙ q words n .0, p words n .1 ∙ q words n .1)
 
 -- .. so texts of the same lines do.
 pub same-lines : (t u : List ℕ) → recordLines t ≡ recordLines u → ReadSame t u
@@ -113,7 +118,7 @@ capital-pairs [] = refl
 capital-pairs (c ∷ []) = refl
 capital-pairs (c ∷ d ∷ l) = rw (capital-value c, capital-value d, capital-pairs l)
 
-capital-bytes : (l : List ℕ) → recordBytes (map capital l) ≡ recordBytes l
+capital-bytes : (l : List ℕ) → lineBytes (map capital l) ≡ lineBytes l
 capital-bytes [] = refl
 capital-bytes (c ∷ l) = capital-pairs l
 
@@ -223,13 +228,13 @@ abbrev pub lineEnd : (cr lf : Bool) → List ℕ
 lineEnd cr lf = cond cr (CR ∷ []) [] ++ cond lf (LF ∷ []) []
 
 -- The text of lines, an LF after each: `cr i` is whether a CR stands before the LF of line i, counted from 0.
-unfoldable pub endings : (cr : ℕ → Bool) → List (List ℕ) → List ℕ
-endings cr [] = []
-endings cr (l ∷ ls) = l ++ (lineEnd (cr 0) true ++ endings (λ i. cr (suc i)) ls)
+unfoldable pub unlinesWith : (cr : ℕ → Bool) → List (List ℕ) → List ℕ
+unlinesWith cr [] = []
+unlinesWith cr (l ∷ ls) = l ++ (lineEnd (cr 0) true ++ unlinesWith (λ i. cr (suc i)) ls)
 
 -- Whichever LFs have a CR before them, the lines are read as they are (they have no LF in them and no CR at their end), ..
-pub any-ends : (cr : ℕ → Bool) (ls : List (List ℕ)) → NoneLF ls → map withoutCR ls ≡ ls → recordLines (endings cr ls) ≡ ls
-unfolding NoneLF lines endings
+pub any-ends : (cr : ℕ → Bool) (ls : List (List ℕ)) → NoneLF ls → map withoutCR ls ≡ ls → recordLines (unlinesWith cr ls) ≡ ls
+unfolding NoneLF lines unlinesWith
 any-ends cr [] n e = refl
 any-ends cr (l ∷ ls) n e =
     go (cr 0)
@@ -237,24 +242,19 @@ any-ends cr (l ∷ ls) n e =
     ∙ ap₂ (λ (k : List ℕ) (ks : List (List ℕ)). k ∷ ks) (head-eq-of-cons-eq e) (any-ends (λ i. cr (suc i)) ls (n .1) (tail-eq-of-cons-eq e))
   where
     rest : List ℕ
-    rest = endings (λ i. cr (suc i)) ls
+    rest = unlinesWith (λ i. cr (suc i)) ls
 
     go : (t : Bool) → recordLines (l ++ (lineEnd t true ++ rest)) ≡ recordLines (l ++ (LF ∷ rest))
     go true = cr-before-lf l rest (head-eq-of-cons-eq e)
     go false = refl
 
 -- .. and so the same is read.
-pub same-ends : (cr cr′ : ℕ → Bool) (ls : List (List ℕ)) → NoneLF ls → map withoutCR ls ≡ ls → ReadSame (endings cr ls) (endings cr′ ls)
-same-ends cr cr′ ls n e = same-lines (endings cr ls) (endings cr′ ls) (any-ends cr ls n e ∙ sym (any-ends cr′ ls n e))
+pub same-ends : (cr cr′ : ℕ → Bool) (ls : List (List ℕ)) → NoneLF ls → map withoutCR ls ≡ ls → ReadSame (unlinesWith cr ls) (unlinesWith cr′ ls)
+same-ends cr cr′ ls n e = same-lines (unlinesWith cr ls) (unlinesWith cr′ ls) (any-ends cr ls n e ∙ sym (any-ends cr′ ls n e))
 
 -- ---- "The last LF may be missing, with that CR or without."
 
--- The LF after a last byte c makes no difference, ..
-pub last-lf : (t : List ℕ) (c : ℕ) → (c ≡ LF → ⊥) → recordLines (t ++ (c ∷ LF ∷ [])) ≡ recordLines (t ++ (c ∷ []))
-unfolding lines
-last-lf t c n = after-text t c (LF ∷ []) [] (rw (ne-eqb c LF n))
-
--- .. nor does a CR, with that LF or without.
+-- After a last byte c that is neither, a CR, an LF or both make no difference, ..
 pub four-ends : (t : List ℕ) (c : ℕ) → (c ≡ LF → ⊥) → (c ≡ CR → ⊥) → (cr lf : Bool) → recordLines (t ++ (c ∷ lineEnd cr lf)) ≡ recordLines (t ++ (c ∷ []))
 unfolding lines withoutCR
 four-ends t c n m cr lf = after-text t c (lineEnd cr lf) [] (go cr lf)

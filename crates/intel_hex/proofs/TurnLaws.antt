@@ -14,10 +14,10 @@ use Rattle.text.specs.Lines.{lines, firstLine}
 use Rattle.text.specs.Place.{put}
 use Rattle.text.proofs.Truth.{and-right, neither}
 use Rattle.text.proofs.LineLaws.{lines-first}
-use Rattle.intel_hex.specs.declared.Found.{Found}
-use Rattle.intel_hex.specs.Record.{recordBytes, dataCount, address, type, isRecord}
+use Rattle.intel_hex.specs.declared.record.Found.{Found}
+use Rattle.intel_hex.specs.Record.{lineBytes, dataCount, address, kind, isRecord}
 use Rattle.intel_hex.specs.Reading.{withoutCR, recordLines, isEnd, isRightEnd, isReadType, isPlaced, freeAfter, putRecords}
-use Rattle.intel_hex.specs.Promises.{firstRecord, RecordFound, foundOutcome}
+use Rattle.intel_hex.specs.Steps.{firstRecord, RecordFound, foundOutcome}
 use Rattle.intel_hex.proofs.OutcomeLaws.{isNone, none-is, told}
 
 -- ---- three questions
@@ -88,55 +88,55 @@ module _ (text : List ℕ) (at : ℕ) (h : at < length text) (bytes after : List
 
   -- A record.
   module _ (g : f .good ≡ true) where
-    lines-good : recordLines (drop at text) ≡ line ∷ rest
-    lines-good =
+    lines-then : recordLines (drop at text) ≡ line ∷ rest
+    lines-then =
         let place : at + suc (length (firstLine (drop at text))) ≡ next = (let end = here .line-end g in omega arith) in
         lines-here ∙ rw place
 
     isRight : Bool
-    isRight = isRecord line && isRightEnd (isNone rest) (type (recordBytes line)) (dataCount (recordBytes line))
+    isRight = isRecord line && isRightEnd (isNone rest) (kind (lineBytes line)) (dataCount (lineBytes line))
 
     placed : Bool
-    placed = isPlaced room free (address (recordBytes line)) (dataCount (recordBytes line))
+    placed = isPlaced room free (address (lineBytes line)) (dataCount (lineBytes line))
 
-    outcome-is : outcome ≡ asked isRight (isReadType (type (recordBytes line))) placed (i + 1) (accepted 0)
+    outcome-is : outcome ≡ asked isRight (isReadType (kind (lineBytes line))) placed (i + 1) (accepted 0)
     unfolding isRight placed
-    outcome-is = rw (here .type-is g, here .count-is g, here .address-is g, ← (here .is-record), g, last-line text next)
+    outcome-is = rw (here .kind-is g, here .count-is g, here .address-is g, ← (here .is-record), g, last-line text next)
 
-    told-is : told room free i (recordLines (drop at text))
-        ≡ asked isRight (isReadType (type (recordBytes line))) placed (i + 1)
-        (cond (isEnd (type (recordBytes line))) (accepted 0) (told room (freeAfter free (recordBytes line)) (i + 1) rest))
+    told-here : told room free i (recordLines (drop at text))
+        ≡ asked isRight (isReadType (kind (lineBytes line))) placed (i + 1)
+        (cond (isEnd (kind (lineBytes line))) (accepted 0) (told room (freeAfter free (lineBytes line)) (i + 1) rest))
     unfolding told isRight placed
-    told-is = rw lines-good
+    told-here = rw lines-then
 
     -- It is refused, ..
     pub good-refused : eqb (outcome .number) 0 ≡ false → outcome ≡ told room free i (recordLines (drop at text))
-    good-refused e = outcome-is ∙ a-no isRight (isReadType (type (recordBytes line))) placed (i + 1) _ (rw outcome-is at e) ∙ sym told-is
+    good-refused e = outcome-is ∙ a-no isRight (isReadType (kind (lineBytes line))) placed (i + 1) _ (rw outcome-is at e) ∙ sym told-here
 
     module _ (e : eqb (outcome .number) 0 ≡ true) where
-      yes : (isRight ≡ true) × (isReadType (type (recordBytes line)) ≡ true) × (placed ≡ true)
-      yes = no-no isRight (isReadType (type (recordBytes line))) placed (i + 1) (rw outcome-is at e)
+      yes : (isRight ≡ true) × (isReadType (kind (lineBytes line)) ≡ true) × (placed ≡ true)
+      yes = no-no isRight (isReadType (kind (lineBytes line))) placed (i + 1) (rw outcome-is at e)
 
-      told-next : told room free i (recordLines (drop at text)) ≡ cond (isEnd (type (recordBytes line))) (accepted 0) (told room (freeAfter free (recordBytes line)) (i + 1) rest)
-      told-next = told-is ∙ rw (yes .0, yes .1, yes .2)
+      told-next : told room free i (recordLines (drop at text)) ≡ cond (isEnd (kind (lineBytes line))) (accepted 0) (told room (freeAfter free (lineBytes line)) (i + 1) rest)
+      told-next = told-here ∙ rw (yes .0, yes .1, yes .2)
 
       -- .. or the end, ..
       pub good-end : eqb (f .kind) 1 ≡ true → (outcome ≡ told room free i (recordLines (drop at text))) × (after ≡ putRecords bytes (recordLines (drop at text)))
       unfolding isRight putRecords
       good-end k =
-          let end : isEnd (type (recordBytes line)) ≡ true = rw (← (here .type-is g)) k in
-          let none = none-is rest (and-right (eqb (dataCount (recordBytes line)) 0) (isNone rest) (rw end at (and-right (isRecord line) _ (yes .0)))) in
+          let end : isEnd (kind (lineBytes line)) ≡ true = rw (← (here .kind-is g)) k in
+          let none = none-is rest (and-right (eqb (dataCount (lineBytes line)) 0) (isNone rest) (rw end at (and-right (isRecord line) _ (yes .0)))) in
           let all = yes in
-          (outcome-is ∙ rw (all .0, all .1, all .2) (sym (told-next ∙ rw end)), here .bytes g ∙ rw (lines-good, none))
+          (outcome-is ∙ rw (all .0, all .1, all .2) (sym (told-next ∙ rw end)), here .bytes g ∙ rw (lines-then, none))
 
       -- .. or another record, which puts its data.
       pub good-next : eqb (f .kind) 1 ≡ false → (free′ : ℕ) → free′ ≡ cond (eqb (f .count) 0) free (f .address + f .count)
           → (told room free′ (i + 1) rest ≡ told room free i (recordLines (drop at text))) × (putRecords after rest ≡ putRecords bytes (recordLines (drop at text)))
       unfolding putRecords
       good-next k free′ q =
-          let other : isEnd (type (recordBytes line)) ≡ false = rw (← (here .type-is g)) k in
-          let same : free′ ≡ freeAfter free (recordBytes line) = q ∙ rw (here .count-is g, here .address-is g) in
-          (rw same (sym (told-next ∙ rw other)), rw (here .bytes g, lines-good))
+          let other : isEnd (kind (lineBytes line)) ≡ false = rw (← (here .kind-is g)) k in
+          let same : free′ ≡ freeAfter free (lineBytes line) = q ∙ rw (here .count-is g, here .address-is g) in
+          (rw same (sym (told-next ∙ rw other)), rw (here .bytes g, lines-then))
 
   is-good : eqb (outcome .number) 0 ≡ true → f .good ≡ true
   is-good e = go (f .good) refl

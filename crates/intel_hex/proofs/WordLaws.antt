@@ -13,8 +13,9 @@ use Rattle.text.specs.Place.{put}
 use Rattle.text.proofs.Truth.{and-left, and-right}
 use Rattle.text.proofs.PutLaws.{length-put}
 use Rattle.text.proofs.QuestionLaws.{first-yes}
-use Rattle.intel_hex.specs.Record.{recordBytes, dataCount, address, type, dataBytes, isRecord}
-use Rattle.intel_hex.specs.Reading.{recordLines, isEnd, isRightEnd, isReadType, isPlaced, freeAfter, recordsOutcome, putRecords, wordsOf, hexWords}
+use Rattle.intel_hex.specs.Words.{wordsOf}
+use Rattle.intel_hex.specs.Record.{lineBytes, dataCount, address, kind, dataBytes, isRecord}
+use Rattle.intel_hex.specs.Reading.{recordLines, isEnd, isRightEnd, isReadType, isPlaced, freeAfter, recordsOutcome, putRecords, hexWords}
 use Rattle.intel_hex.proofs.PairLaws.{values-below}
 use Rattle.intel_hex.proofs.RecordLaws.{record-digits}
 use Rattle.intel_hex.proofs.OutcomeLaws.{isNone, none-is, told, told-is}
@@ -29,25 +30,25 @@ told-records : (room free i : ℕ) (ls : List (List ℕ)) → told room free i l
 unfolding told AreRecords
 told-records room free i [] e = tt
 told-records room free i (l ∷ ls) e =
-    let b = recordBytes l in
-    let one = first-yes 17 (i + 1) (isRecord l && isRightEnd (isNone ls) (type b) (dataCount b)) _ (omega arith) e in
-    let two = first-yes 18 (i + 1) (isReadType (type b)) _ (omega arith) (one .1) in
+    let b = lineBytes l in
+    let one = first-yes 17 (i + 1) (isRecord l && isRightEnd (isNone ls) (kind b) (dataCount b)) _ (omega arith) e in
+    let two = first-yes 18 (i + 1) (isReadType (kind b)) _ (omega arith) (one .1) in
     let three = first-yes 19 (i + 1) (isPlaced room free (address b) (dataCount b)) _ (omega arith) (two .1) in
-    (and-left (isRecord l) _ (one .0), go (isEnd (type b)) (dataCount b) (and-right (isRecord l) _ (one .0)) (three .1) (told-records room (freeAfter free b) (i + 1) ls))
+    (and-left (isRecord l) _ (one .0), go (isEnd (kind b)) (dataCount b) (and-right (isRecord l) _ (one .0)) (three .1) (told-records room (freeAfter free b) (i + 1) ls))
   where
-    go : (t : Bool) (n : ℕ) → (not t || (eqb n 0 && isNone ls)) ≡ true → cond t (accepted 0) (told room (freeAfter free (recordBytes l)) (i + 1) ls) .number ≡ 0
-        → (told room (freeAfter free (recordBytes l)) (i + 1) ls .number ≡ 0 → AreRecords ls) → AreRecords ls
+    go : (t : Bool) (n : ℕ) → (not t || (eqb n 0 && isNone ls)) ≡ true → cond t (accepted 0) (told room (freeAfter free (lineBytes l)) (i + 1) ls) .number ≡ 0
+        → (told room (freeAfter free (lineBytes l)) (i + 1) ls .number ≡ 0 → AreRecords ls) → AreRecords ls
     go true n e f more = rw (none-is ls (and-right (eqb n 0) (isNone ls) e)) tt
     go false n e f more = more f
 
 -- What a record names lies below 65,792.
-record-within : (l : List ℕ) → isRecord l ≡ true → address (recordBytes l) + length (dataBytes (recordBytes l)) ≤ 65792
+record-within : (l : List ℕ) → isRecord l ≡ true → address (lineBytes l) + length (dataBytes (lineBytes l)) ≤ 65792
 record-within l good =
     let below = values-below (drop 1 l) (record-digits l good) in
     let count = below 0 in
     let high = below 1 in
     let low = below 2 in
-    let few = length-take (dataCount (recordBytes l)) (drop 4 (recordBytes l)) in
+    let few = length-take (dataCount (lineBytes l)) (drop 4 (lineBytes l)) in
     omega arith
 
 -- ---- the same bytes as far as the first list goes
@@ -79,7 +80,7 @@ same-records : (d e : List ℕ) (ls : List (List ℕ)) → length e ≡ 65792 �
 unfolding putRecords AreRecords
 same-records d e [] size good same = same
 same-records d e (l ∷ ls) size good same =
-    let b = recordBytes l in
+    let b = lineBytes l in
     let within = record-within l (good .0) in
     same-records (put d (address b) (dataBytes b)) (put e (address b) (dataBytes b)) ls (length-put e (address b) (dataBytes b) ∙ size) (good .1)
     (same-put d e (address b) (dataBytes b) (rw size within) same)
@@ -87,7 +88,7 @@ same-records d e (l ∷ ls) size good same =
 length-records : (d : List ℕ) (ls : List (List ℕ)) → length (putRecords d ls) ≡ length d
 unfolding putRecords
 length-records d [] = refl
-length-records d (l ∷ ls) = length-records (put d (address (recordBytes l)) (dataBytes (recordBytes l))) ls ∙ length-put d (address (recordBytes l)) (dataBytes (recordBytes l))
+length-records d (l ∷ ls) = length-records (put d (address (lineBytes l)) (dataBytes (lineBytes l))) ls ∙ length-put d (address (lineBytes l)) (dataBytes (lineBytes l))
 
 same-words : (n : ℕ) (d e : List ℕ) → length d ≡ 4 * n → Same d e → wordsOf n d ≡ wordsOf n e
 unfolding wordsOf Same
@@ -109,10 +110,10 @@ zero-at (suc n) zero = refl
 zero-at (suc n) (suc k) = zero-at n k
 
 -- The words of a good text are those of the bytes that its records put into 65,792 zeros.
-pub words-are : (n : ℕ) (text : List ℕ) → recordsOutcome (4 * n) (recordLines text) .number ≡ 0
+pub words-given : (n : ℕ) (text : List ℕ) → recordsOutcome (4 * n) (recordLines text) .number ≡ 0
     → hexWords n text ≡ wordsOf n (putRecords (replicate 65792 0) (recordLines text))
 unfolding hexWords Same
-words-are n text good =
+words-given n text good =
     let ls = recordLines text in
     let records = told-records (4 * n) 0 0 ls (rw told-is at good) in
     same-words n (putRecords (replicate (4 * n) 0) ls) (putRecords (replicate 65792 0) ls) (length-records (replicate (4 * n) 0) ls ∙ length-replicate {A = ℕ} (4 * n) 0)

@@ -14,9 +14,9 @@ use Rattle.text.specs.Ranges.{Below}
 use Rattle.text.proofs.RangeLaws.{below-append}
 use Rattle.text.proofs.DigitLaws.{digit-back, length-digits, all-digits}
 use Rattle.text.proofs.LineLaws.{NoLF, digits-no-lf}
-use Rattle.intel_hex.specs.Record.{pairValues, recordBytes, total, dataCount, address, type, dataBytes, isRecord}
+use Rattle.intel_hex.specs.Record.{pairValues, lineBytes, total, dataCount, address, kind, dataBytes, isRecord, checksum}
 use Rattle.intel_hex.specs.Reading.{withoutCR}
-use Rattle.intel_hex.specs.Writing.{bytePairs, checksum, dataRecord, recordLine}
+use Rattle.intel_hex.specs.Writing.{bytePairs, dataRecord, recordLine}
 use Rattle.intel_hex.proofs.PairLaws.{total-append}
 use Rattle.intel_hex.proofs.RecordLaws.{no-cr}
 
@@ -72,7 +72,7 @@ module _ (bs : List ℕ) where
 
 -- ---- its bytes
 
-sum-zero : (bs : List ℕ) → total (bs ++ (checksum bs ∷ [])) % 256 ≡ 0
+pub sum-zero : (bs : List ℕ) → total (bs ++ (checksum bs ∷ [])) % 256 ≡ 0
 unfolding total
 sum-zero bs = rw (total-append bs (checksum bs ∷ [])) (omega arith)
 
@@ -82,7 +82,7 @@ module _ (bs : List ℕ) (small : Below 256 bs) where
   below-one zero = mod-lt (256 - total bs % 256) (omega arith)
   below-one (suc n) = omega arith
 
-  line-bytes : recordBytes (recordLine bs) ≡ bs ++ (checksum bs ∷ [])
+  line-bytes : lineBytes (recordLine bs) ≡ bs ++ (checksum bs ∷ [])
   unfolding recordLine
   line-bytes = pairs-back (bs ++ (checksum bs ∷ [])) (below-append 256 bs (checksum bs ∷ []) small below-one)
 
@@ -95,19 +95,19 @@ module _ (at : ℕ) (bs : List ℕ) (high : at < 65536) (few : length bs < 256) 
   below-record (suc (suc (suc zero))) = omega arith
   below-record (suc (suc (suc (suc n)))) = small n
 
-  data-bytes : recordBytes (recordLine (dataRecord at bs)) ≡ dataRecord at bs ++ (checksum (dataRecord at bs) ∷ [])
+  data-bytes : lineBytes (recordLine (dataRecord at bs)) ≡ dataRecord at bs ++ (checksum (dataRecord at bs) ∷ [])
   data-bytes = line-bytes (dataRecord at bs) below-record
 
-  pub data-count : dataCount (recordBytes (recordLine (dataRecord at bs))) ≡ length bs
+  pub data-count : dataCount (lineBytes (recordLine (dataRecord at bs))) ≡ length bs
   data-count = rw data-bytes
 
-  pub data-address : address (recordBytes (recordLine (dataRecord at bs))) ≡ at
+  pub data-address : address (lineBytes (recordLine (dataRecord at bs))) ≡ at
   data-address = rw data-bytes (omega arith)
 
-  pub data-type : type (recordBytes (recordLine (dataRecord at bs))) ≡ 0
-  data-type = rw data-bytes
+  pub data-kind : kind (lineBytes (recordLine (dataRecord at bs))) ≡ 0
+  data-kind = rw data-bytes
 
-  pub data-data : dataBytes (recordBytes (recordLine (dataRecord at bs))) ≡ bs
+  pub data-data : dataBytes (lineBytes (recordLine (dataRecord at bs))) ≡ bs
   data-data = rw data-bytes (take-append-seam bs (checksum (dataRecord at bs) ∷ []))
 
   pub data-record : isRecord (recordLine (dataRecord at bs)) ≡ true

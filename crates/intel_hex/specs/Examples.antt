@@ -10,9 +10,10 @@ use Rattle.text.specs.Questions.{accepted, refused, firstBad}
 use Rattle.text.specs.Numerals.{digits, allDigits}
 use Rattle.text.specs.Lines.{lines, unlines}
 use Rattle.text.specs.Place.{put}
+use Rattle.intel_hex.specs.Words.{wordsOf, memoryBytes}
 use Rattle.intel_hex.specs.Record.{pairValues, total, isRecord}
-use Rattle.intel_hex.specs.Reading.{withoutCR, recordLines, freeAfterAll, hasEnd, recordsOutcome, hexOutcome, putRecords, wordsOf, hexWords}
-use Rattle.intel_hex.specs.Writing.{hexText, recordLine, dataRecord, dataLines, endLine, memoryBytes, bytePairs}
+use Rattle.intel_hex.specs.Reading.{withoutCR, recordLines, freeAfterAll, hasEnd, recordsOutcome, hexOutcome, putRecords, hexWords}
+use Rattle.intel_hex.specs.Writing.{hexText, recordLine, dataRecord, dataLines, endLine, bytePairs}
 
 -- ---- written
 

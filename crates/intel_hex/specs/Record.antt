@@ -1,6 +1,6 @@
 -- A record of Intel HEX: a line of `:` and pairs of hexadecimal digits, each pair a byte. The bytes are the count of data bytes, the address (two
 -- bytes, the high one first), the type, the data bytes and the checksum.
-use Prim.Native.Nat.{ℕ, _+_, _*_, _%_}
+use Prim.Native.Nat.{ℕ, _+_, _-_, _*_, _%_}
 use Prim.Native.Char.{code}
 use mathlib.Core.Bool.{Bool, _&&_}
 use mathlib.Core.List.{List, [], _∷_}
@@ -10,15 +10,19 @@ use Rattle.text.specs.Numerals.{digitValue, allDigits}
 
 -- ---- its bytes
 
+-- The byte that two digits stand for.
+abbrev pub pairByte : ℕ → ℕ → ℕ
+pairByte c d = digitValue c * 16 + digitValue d
+
 -- The bytes that pairs of digits stand for, "digits of either case".
 unfoldable pub pairValues : List ℕ → List ℕ
 pairValues [] = []
 pairValues (c ∷ []) = []
-pairValues (c ∷ d ∷ cs) = (digitValue c * 16 + digitValue d) ∷ pairValues cs
+pairValues (c ∷ d ∷ cs) = pairByte c d ∷ pairValues cs
 
 -- The bytes of the record that a line is.
-abbrev pub recordBytes : List ℕ → List ℕ
-recordBytes l = pairValues (drop 1 l)
+abbrev pub lineBytes : List ℕ → List ℕ
+lineBytes l = pairValues (drop 1 l)
 
 -- The sum of bytes.
 unfoldable pub total : List ℕ → ℕ
@@ -33,8 +37,8 @@ dataCount b = getD b 0 0
 abbrev pub address : List ℕ → ℕ
 address b = getD b 1 0 * 256 + getD b 2 0
 
-abbrev pub type : List ℕ → ℕ
-type b = getD b 3 0
+abbrev pub kind : List ℕ → ℕ
+kind b = getD b 3 0
 
 abbrev pub dataBytes : List ℕ → List ℕ
 dataBytes b = take (dataCount b) (drop 4 b)
@@ -43,14 +47,18 @@ dataBytes b = take (dataCount b) (drop 4 b)
 
 -- Its form: `:`, then two digits for the count, four for the address, two for the type, two for each data byte and two for the checksum.
 abbrev pub hasForm : List ℕ → Bool
-hasForm l = eqb (getD l 0 0) (code ":") && eqb (length l) (2 * dataCount (recordBytes l) + 11)
+hasForm l = eqb (getD l 0 0) (code ":") && eqb (length l) (2 * dataCount (lineBytes l) + 11)
 
 abbrev pub hasDigits : List ℕ → Bool
 hasDigits l = allDigits 16 (drop 1 l)
 
--- Its checksum makes the sum of all its bytes a multiple of 256.
+-- The checksum of bytes makes the sum of all a multiple of 256: asked of a line, ..
 abbrev pub hasChecksum : List ℕ → Bool
-hasChecksum l = eqb (total (recordBytes l) % 256) 0
+hasChecksum l = eqb (total (lineBytes l) % 256) 0
+
+-- .. and the byte that does so after these (`WrittenLaws.sum-zero`).
+abbrev pub checksum : List ℕ → ℕ
+checksum bs = (256 - total bs % 256) % 256
 
 -- The line has none of "a wrong form, digit or checksum".
 unfoldable pub isRecord : List ℕ → Bool

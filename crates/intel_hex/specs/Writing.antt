@@ -1,30 +1,18 @@
 -- Intel HEX written.
-use Prim.Native.Nat.{ℕ, zero, suc, _+_, _-_, _/_, _%_}
+use Prim.Native.Nat.{ℕ, zero, suc, _+_, _/_, _%_}
 use Prim.Native.Char.{code}
 use mathlib.Core.List.{List, [], _∷_, _++_}
 use lib.ListN.{length, take, drop}
 use Rattle.text.specs.Bytes.{bytes}
 use Rattle.text.specs.Numerals.{digits}
 use Rattle.text.specs.Lines.{unlines}
-use Rattle.intel_hex.specs.Record.{total}
-
--- "Word n fills bytes 4n to 4n+3, most significant first": the bytes of a word, ..
-abbrev pub wordBytes : ℕ → List ℕ
-wordBytes w = w / 0x1000000 % 256 ∷ w / 0x10000 % 256 ∷ w / 256 % 256 ∷ w % 256 ∷ []
-
--- .. and of a memory.
-unfoldable pub memoryBytes : List ℕ → List ℕ
-memoryBytes [] = []
-memoryBytes (w ∷ ws) = wordBytes w ++ memoryBytes ws
+use Rattle.intel_hex.specs.Record.{checksum}
+use Rattle.intel_hex.specs.Words.{memoryBytes}
 
 -- Bytes "in capitals", two digits each.
 unfoldable pub bytePairs : List ℕ → List ℕ
 bytePairs [] = []
 bytePairs (b ∷ bs) = digits 16 2 b ++ bytePairs bs
-
--- The byte that makes the sum of bytes a multiple of 256.
-abbrev pub checksum : List ℕ → ℕ
-checksum bs = (256 - total bs % 256) % 256
 
 -- The line of a record whose bytes before the checksum are these.
 unfoldable pub recordLine : List ℕ → List ℕ
@@ -42,6 +30,6 @@ dataLines (suc n) a bs = recordLine (dataRecord a (take 16 bs)) ∷ dataLines n 
 abbrev pub endLine : List ℕ
 endLine = bytes ":00000001FF"
 
--- "Write records of 16 data bytes over the whole memory in capitals, then `:00000001FF`."
+-- "Write records of 16 data bytes over the whole memory in capitals, then `:00000001FF`": of a memory that such records fill within 64 KiB.
 unfoldable pub hexText : List ℕ → List ℕ
 hexText words = unlines (dataLines (length words / 4) 0 (memoryBytes words) ++ (endLine ∷ []))

@@ -8,7 +8,7 @@ ghost use lib.Dec.{eqb};
 ghost use Rattle.intel_hex.specs.Answers.{hexReadOutcome};
 
 impl HexRead {
-    // Document 02's number, and the line.
+    // The outcome of reading a text.
     pub fn outcome(self) -> Outcome
         ensures { λ r. ⌜ r ≡ hexReadOutcome self ⌝ }
     {
@@ -16,8 +16,7 @@ impl HexRead {
             HexRead::Filled => accepted(0),
             HexRead::WrongLength => refused(1, 0),
             HexRead::BadRecord(line) => refused(17, line),
-            HexRead::OtherType(line) => refused(18, line),
-            HexRead::MissingEnd(line) => refused(18, line),
+            HexRead::BadType(line) => refused(18, line),
             HexRead::BadAddress(line) => refused(19, line),
         }
     }
@@ -30,8 +29,7 @@ impl HexRead {
             HexRead::Filled => true,
             HexRead::WrongLength => false,
             HexRead::BadRecord(_) => false,
-            HexRead::OtherType(_) => false,
-            HexRead::MissingEnd(_) => false,
+            HexRead::BadType(_) => false,
             HexRead::BadAddress(_) => false,
         }
     }

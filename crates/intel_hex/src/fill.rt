@@ -1,13 +1,14 @@
 // The words of a memory from its bytes.
+ghost use Rattle.intel_hex.specs.Words.{firstWord, wordsOf};
+ghost use Rattle.intel_hex.specs.Steps.{byteLimit};
 use crate::record::BYTES;
 ghost use mathlib.Core.Path.{_≡_};
 ghost use Prim.Native.Nat.{_+_, _*_, _≤_};
 ghost use lib.ListN.{length, drop};
-ghost use Rattle.intel_hex.specs.Reading.{firstWord, wordsOf};
 
 // Sets every word of a memory from bytes, to 0 where they end.
 pub fn fill_memory(bytes: &[u8; BYTES], memory: &mut [u32])
-    requires { ⌜ length (now bytes) ≡ 65792 ⌝ }
+    requires { ⌜ length (now bytes) ≡ byteLimit ⌝ }
     ensures { λ _. ⌜ now (memory .exit) ≡ wordsOf (length (now (memory .entry))) (now (bytes .entry)) ⌝ }
 {
     let mut i = 0;
@@ -19,7 +20,7 @@ pub fn fill_memory(bytes: &[u8; BYTES], memory: &mut [u32])
 
 // The word i of bytes; 0 where they have ended.
 fn word(bytes: &[u8; BYTES], i: usize) -> u32
-    requires { ⌜ length (now bytes) ≡ 65792 ⌝ }
+    requires { ⌜ length (now bytes) ≡ byteLimit ⌝ }
     ensures { λ r. ⌜ r ≡ firstWord (drop (4 * i) (now (bytes .entry))) ⌝ }
 {
     if i < BYTES / 4 {
@@ -31,7 +32,7 @@ fn word(bytes: &[u8; BYTES], i: usize) -> u32
 
 // The word whose four bytes stand at a place, the most significant first.
 fn word_at(bytes: &[u8; BYTES], at: usize) -> u32
-    requires { ⌜ (length (now bytes) ≡ 65792) × (at + 4 ≤ 65792) ⌝ }
+    requires { ⌜ (length (now bytes) ≡ byteLimit) × (at + 4 ≤ byteLimit) ⌝ }
     ensures { λ r. ⌜ r ≡ firstWord (drop at (now (bytes .entry))) ⌝ }
 {
     ((wide(bytes[at]) * 256 + wide(bytes[at + 1])) * 256 + wide(bytes[at + 2])) * 256

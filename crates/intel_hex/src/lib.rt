@@ -1,4 +1,5 @@
-// Intel HEX for memories of 32-bit words, of any number of them: read and written. Nothing here knows of a computer.
+// Intel HEX for memories of 32-bit words: read into a memory of any number of them, and written from one that records of 16 bytes fill within 64 KiB.
+// Nothing here knows of a computer.
 mod answers;
 mod ask;
 mod fill;
@@ -12,25 +13,14 @@ pub use read::read_hex;
 
 // What reading a text answers. Places are lines, from 1.
 pub enum HexRead {
-    // Every word of the memory is set.
+    // The text is good: every word of the memory is set.
     Filled,
     // The lent memory has not the length that it should have.
     WrongLength,
     // This line is no record, or an end record with data or with text after it.
     BadRecord(usize),
-    // This record is of another type.
-    OtherType(usize),
-    // No end record: this is the line after the last.
-    MissingEnd(usize),
-    // A byte of this record lies past the memory, or its first one not above the last that was named.
+    // This record is of another type than 00 and 01; or the end record is missing, and this is the line after the last.
+    BadType(usize),
+    // A byte of this record lies past the memory, or its first byte is not above the last one named before it.
     BadAddress(usize),
-}
-
-// What was found at the front of a text: whether a record stands on its first line. If so, where that line ends, and what the record says.
-pub struct Found {
-    pub good: bool,
-    pub end: usize,
-    pub count: usize,
-    pub address: usize,
-    pub kind: usize,
 }

@@ -7,7 +7,7 @@ ghost use lib.ListN.{length};
 ghost use Rattle.text.specs.Numerals.{DigitValues, allDigits};
 ghost use Rattle.text.specs.Place.{put};
 ghost use Rattle.intel_hex.specs.Record.{pairValues, total};
-ghost use Rattle.intel_hex.specs.Promises.{isPair, pairValue};
+ghost use Rattle.intel_hex.specs.Steps.{isPair, pairValue};
 
 // Whether bytes are digits, and the sum of the bytes that their pairs stand for.
 pub struct Pairs {
@@ -28,7 +28,7 @@ pub fn pair_at(s: &[u8], at: usize, values: &[u8; 256]) -> Pairs
     }
 }
 
-// Puts the bytes that so many pairs stand for at a place, their low 8 bits where the pairs are no digits.
+// Puts the bytes of so many pairs at a place; where a pair is not two digits its byte means nothing.
 pub fn put_pairs(
     pairs: &[u8],
     count: usize,

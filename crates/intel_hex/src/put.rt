@@ -10,13 +10,21 @@ ghost use lib.ListN.{length};
 ghost use Rattle.text.specs.Numerals.{HexWords};
 ghost use Rattle.text.specs.Lines.{LF as lineFeed};
 ghost use Rattle.text.specs.Place.{put, Puts};
+ghost use Rattle.intel_hex.specs.Words.{memoryBytes};
 ghost use Rattle.intel_hex.specs.Record.{total};
-ghost use Rattle.intel_hex.specs.Writing.{memoryBytes, bytePairs, dataRecord, recordLine, hexText};
+ghost use Rattle.intel_hex.specs.Writing.{bytePairs, dataRecord, recordLine, hexText};
 
-// Data bytes of a record, and bytes of its line.
+// Data bytes of a record, and bytes of its line with the LF.
 const DATA: u32 = 16;
 
 const LINE: usize = 44;
+
+// Where the digits of the data and of the checksum, and the LF, stand in the line.
+const DATA_AT: usize = 9;
+
+const CHECKSUM_AT: usize = 41;
+
+const LF_AT: usize = LINE - 1;
 
 // Puts the text of a memory at the front and returns the place after it.
 pub fn put_hex_text(words: &[u32], out: &mut [u8], table: &[u64; 1024]) -> usize
@@ -40,13 +48,18 @@ fn put_record(words: &[u32], address: u16, out: &mut [u8], at: usize, table: &[u
 {
     let a = address as u32;
     out[at] = b':';
-    put_hex_word(out, at + 1, a * 256 + 0x1000_0000, table);
-    let sum = put_digits(words, out, at + 9, table) + (DATA + a / 256 + a % 256);
-    put_hex_byte(out, at + 41, ((256 - sum % 256) % 256) as usize, table);
-    out[at + 43] = LF;
+    put_hex_word(out, at + 1, a * 256 + DATA * 0x100_0000, table);
+    let sum = put_digits(words, out, at + DATA_AT, table) + (DATA + a / 256 + a % 256);
+    put_hex_byte(
+        out,
+        at + CHECKSUM_AT,
+        ((256 - sum % 256) % 256) as usize,
+        table,
+    );
+    out[at + LF_AT] = LF;
 }
 
-// Puts the digits of a few words from a place on, and returns the sum of their bytes.
+// Puts the digits of at most four words from a place on, and returns the sum of their bytes.
 fn put_digits(words: &[u32], out: &mut [u8], at: usize, table: &[u64; 1024]) -> u32
     requires { ⌜ (length (now words) ≤ 4) × (at + length (now words) * 8 ≤ length (now out)) × HexWords (now table) ⌝ }
     ensures { λ r. ⌜ (now (out .exit) ≡ put (now (out .entry)) at (bytePairs (memoryBytes (now (words .entry))))) × (r ≡ total (memoryBytes (now (words .entry)))) × (r ≤ 4096) ⌝ }
@@ -62,9 +75,9 @@ fn put_digits(words: &[u32], out: &mut [u8], at: usize, table: &[u64; 1024]) -> 
     sums % 0x1_0000 + sums / 0x1_0000
 }
 
-// The sum of the low two bytes of a word, and that of the high two in the upper half.
+// The sum of the low two bytes of a word, and that of the high two in the upper half: both are added up at once.
 fn half_sums(w: u32) -> u32
-    ensures { λ r. ⌜ (r ≡ w % 256 + w / 256 % 256 + (w / 0x10000 % 256 + w / 0x1000000) * 0x10000) × (w < 2 ^ 32) ⌝ }
+    ensures { λ r. ⌜ r ≡ w % 256 + w / 256 % 256 + (w / 0x10000 % 256 + w / 0x1000000) * 0x10000 ⌝ }
 {
     (w % 256 + w / 0x1_0000 % 256 * 0x1_0000) + (w / 256 % 256 + w / 0x100_0000 * 0x1_0000)
 }

@@ -7,16 +7,16 @@ use crate::record::BYTES;
 use crate::record::find_record;
 use text::digits::digit_values;
 ghost use mathlib.Core.Path.{_≡_};
-ghost use Prim.Native.Nat.{_+_, _*_};
 ghost use lib.ListN.{length};
 ghost use Rattle.text.specs.Numerals.{DigitValues};
-ghost use Rattle.intel_hex.specs.Promises.{RecordsRead, HexFileRead};
+ghost use Rattle.intel_hex.specs.Promises.{HexFileRead};
+ghost use Rattle.intel_hex.specs.Steps.{byteLimit, RecordsRead};
 
 // Reads a text into a memory that is to have so many words.
-pub fn read_hex(text: &[u8], words: usize, memory: &mut [u32]) -> HexRead
-    ensures { λ r. ⌜ HexFileRead words (now (text .entry)) (now (memory .entry)) r (now (memory .exit)) ⌝ }
+pub fn read_hex(text: &[u8], size: usize, memory: &mut [u32]) -> HexRead
+    ensures { λ r. ⌜ HexFileRead size (now (text .entry)) (now (memory .entry)) r (now (memory .exit)) ⌝ }
 {
-    if memory.len() != words {
+    if memory.len() != size {
         return HexRead::WrongLength;
     }
     let values = digit_values();
@@ -30,7 +30,7 @@ pub fn read_hex(text: &[u8], words: usize, memory: &mut [u32]) -> HexRead
 
 // Reads the records of a text into bytes, of which a memory has `room`.
 fn read_records(text: &[u8], room: usize, bytes: &mut [u8; BYTES], values: &[u8; 256]) -> HexRead
-    requires { ⌜ (length (now bytes) ≡ 65792) × DigitValues (now values) ⌝ }
+    requires { ⌜ (length (now bytes) ≡ byteLimit) × DigitValues (now values) ⌝ }
     ensures { λ r. ⌜ RecordsRead room (now (text .entry)) (now (bytes .entry)) r (now (bytes .exit)) ⌝ }
 {
     let mut at = 0;
@@ -47,5 +47,5 @@ fn read_records(text: &[u8], room: usize, bytes: &mut [u8; BYTES], values: &[u8;
         at = next;
         i += 1;
     }
-    HexRead::MissingEnd(i + 1)
+    HexRead::BadType(i + 1)
 }

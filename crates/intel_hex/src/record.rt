@@ -1,19 +1,18 @@
 // The record at the front of a text.
-use crate::Found;
 use crate::pairs::pair_at;
 use crate::pairs::put_pairs;
 use text::lines::ends_line;
 ghost use mathlib.Core.Path.{_≡_};
-ghost use Prim.Native.Nat.{_+_, _*_, _≤_, _<_};
+ghost use Prim.Native.Nat.{_≤_};
 ghost use lib.ListN.{length};
 ghost use Rattle.text.specs.Numerals.{DigitValues};
-ghost use Rattle.intel_hex.specs.Promises.{HeadRead, RecordFound, recordEnd, nothingFound};
+ghost use Rattle.intel_hex.specs.Steps.{byteLimit, HeadRead, RecordFound, recordEnd, nothingFound};
 
 // The bytes of a record's line without data: `:`, count, address, type and checksum.
-pub const SHORTEST: usize = 11;
+const SHORTEST: usize = 11;
 
 // Those before the data.
-pub const HEAD: usize = 9;
+const HEAD: usize = 9;
 
 // Every byte that a record can name lies below this place: 255 bytes from the last address on, in whole words.
 pub const BYTES: usize = 65_792;
@@ -27,9 +26,18 @@ pub struct Head {
     pub sum: u64,
 }
 
+// What was found at the front of a text: whether a record stands on its first line. If so, where that line ends, and what the record says.
+pub struct Found {
+    pub good: bool,
+    pub end: usize,
+    pub count: usize,
+    pub address: usize,
+    pub kind: usize,
+}
+
 // Looks for a record on the first line of a text, and puts its data into bytes at its address. They may be changed where there is none.
 pub fn find_record(text: &[u8], bytes: &mut [u8; BYTES], values: &[u8; 256]) -> Found
-    requires { ⌜ (length (now bytes) ≡ 65792) × DigitValues (now values) ⌝ }
+    requires { ⌜ (length (now bytes) ≡ byteLimit) × DigitValues (now values) ⌝ }
     ensures { λ r. ⌜ RecordFound (now (text .entry)) (now (bytes .entry)) r (now (bytes .exit)) ⌝ }
 {
     if text.len() < SHORTEST {
@@ -76,7 +84,7 @@ fn nothing() -> Found
 
 // What stands before the data of a record.
 fn head_of(text: &[u8], values: &[u8; 256]) -> Head
-    requires { ⌜ (11 ≤ length (now text)) × DigitValues (now values) ⌝ }
+    requires { ⌜ (9 ≤ length (now text)) × DigitValues (now values) ⌝ }
     ensures { λ r. ⌜ HeadRead (now (text .entry)) r ⌝ }
 {
     let count = pair_at(text, 1, values);
@@ -92,7 +100,7 @@ fn head_of(text: &[u8], values: &[u8; 256]) -> Head
     }
 }
 
-// Where the line ends whose record ends at this place: there, or after one CR; 0 where it goes on. (It lies within the text, as callers want to know.)
+// Where the line ends whose record ends at this place: there, or after one CR; 0 where it goes on. (Callers need that it lies within the text.)
 fn record_end(text: &[u8], stop: usize) -> usize
     requires { ⌜ stop ≤ length (now text) ⌝ }
     ensures { λ r. ⌜ (r ≡ recordEnd (now (text .entry)) stop) × (r ≤ length (now (text .entry))) ⌝ }

@@ -14,7 +14,7 @@ pub fn print_overview() {
     at = put_if_room(
         &mut text,
         at,
-        b"  lab list IMEM            prints an instruction file as assembly text\n  lab show RECORD          prints a saved record by its fields\n  lab picture MONITOR PGM  writes a frame as a picture\n  lab resume IMEM DMEM DISK MONITOR RECORD IRQ2 CYCLES LOG\n                           runs a program on where it stopped\n\n",
+        b"  lab list IMEM            prints an instruction file as assembly text\n  lab show RECORD          prints a saved record by its fields\n  lab picture MONITOR PGM  writes a frame as a picture\n  lab hex read|write data|disk FROM TO\n                           reads Intel HEX into the file of data or of the disk, or writes it\n  lab resume IMEM DMEM DISK MONITOR RECORD IRQ2 CYCLES LOG\n                           runs a program on where it stopped\n\n",
     );
     at = put_if_room(
         &mut text,
@@ -114,6 +114,32 @@ pub fn print_resume_help() {
         &mut text,
         at,
         b"Example:\n\n  lab resume imemin.txt dmem.txt disk.txt monitor.txt record.bin irq2in.txt 1000 log.txt\n\nStopped and resumed with the same files, a run writes the log that one long run writes. All files\nare written, or none: each beside the old one as NAME.new, which takes its place at the end.\n",
+    );
+    say(&text[..at]);
+}
+
+// Prints how `lab hex` is used.
+pub fn print_hex_help() {
+    let mut text = [0u8; LINE];
+    let mut at = put_if_room(
+        &mut text,
+        0,
+        b"lab hex read|write data|disk FROM TO: reads and writes SIMP data and disks as Intel HEX\n\n",
+    );
+    at = put_if_room(
+        &mut text,
+        at,
+        b"  lab hex read data HEX DMEM   reads a HEX file and writes the file of data, as sim reads it\n  lab hex read disk HEX DISK   reads a HEX file and writes the file of the disk\n  lab hex write data DMEM HEX  reads a file of data and writes the HEX file\n  lab hex write disk DISK HEX  reads a file of the disk and writes the HEX file\n\n",
+    );
+    at = put_if_room(
+        &mut text,
+        at,
+        b"  HEX   lines of Intel HEX, a record each: of type 00 (data) or, the last one, of type 01 (end,\n        :00000001FF); digits of either case, right checksums\n  DMEM  the data, up to 4096 lines of 8 hexadecimal digits\n  DISK  the disk, up to 16384 such lines\n\nExamples:\n\n  lab hex read data data.hex dmemin.txt\n  lab hex write disk diskout.txt disk.hex\n\n",
+    );
+    at = put_if_room(
+        &mut text,
+        at,
+        b"Addresses count bytes: word n is bytes 4n to 4n+3, the most significant first. Data has 16384\nbytes, the disk 65536. Each record starts above the last byte of those before it; bytes that none\nnames are zero. A HEX file that is written has the whole memory, 16 bytes a record.\n\nA file that is refused gives one line: what is wrong, and where. Nothing is written then.\n",
     );
     say(&text[..at]);
 }

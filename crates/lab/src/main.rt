@@ -1,8 +1,9 @@
-// The lab's commands, each by its word: `lab list IMEM`, `lab show RECORD`, `lab picture MONITOR PGM`, `lab resume IMEM .. LOG`. Without a word it prints
-// what they are; with a word alone, how that command is used.
+// The lab's commands, each by its word: `lab list IMEM`, `lab show RECORD`, `lab picture MONITOR PGM`, `lab hex read data HEX DMEM` and three more,
+// `lab resume IMEM .. LOG`. Without a word it prints what they are; with a word alone, how that command is used.
 mod help;
 mod words;
 
+use crate::help::print_hex_help;
 use crate::help::print_list_help;
 use crate::help::print_overview;
 use crate::help::print_picture_help;
@@ -14,6 +15,9 @@ use commands::list_file;
 use commands::show_record;
 use console::are_names;
 use console::open_missing_standard_streams;
+use hex_commands::Conversion;
+use hex_commands::conversion_at;
+use hex_commands::convert;
 use run_commands::resume;
 
 // What a word names.
@@ -22,6 +26,7 @@ pub enum Command {
     Show,
     Picture,
     Resume,
+    Hex,
     // None of the commands.
     Unknown,
 }
@@ -38,6 +43,7 @@ fn main() {
         Command::Show => show(count),
         Command::Picture => picture(count),
         Command::Resume => run_on(count),
+        Command::Hex => hex(count),
         Command::Unknown => print_overview(),
     }
 }
@@ -90,5 +96,21 @@ fn run_on(count: usize) {
     }
     if are_names(2, 8) {
         resume(2);
+    }
+}
+
+// lab hex read data HEX DMEM, lab hex read disk HEX DISK, lab hex write data DMEM HEX, lab hex write disk DISK HEX
+fn hex(count: usize) {
+    if count != 6 {
+        print_hex_help();
+        return;
+    }
+    let conversion = conversion_at(2);
+    if let Conversion::Unknown = conversion {
+        print_hex_help();
+        return;
+    }
+    if are_names(4, 2) {
+        convert(conversion, 4);
     }
 }

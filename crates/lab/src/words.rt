@@ -20,5 +20,8 @@ pub fn command_of(word: &[u8]) -> Command
     if are_same(word, b"resume") {
         return Command::Resume;
     }
+    if are_same(word, b"hex") {
+        return Command::Hex;
+    }
     Command::Unknown
 }

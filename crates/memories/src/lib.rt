@@ -42,6 +42,7 @@ pub use new_files::write_new_data;
 pub use new_files::write_new_disk;
 pub use new_files::write_new_frame;
 pub use new_files::write_new_image;
+pub use new_files::write_new_text;
 pub use records::fresh;
 pub use records::load_record_at;
 pub use records::write_new_record;

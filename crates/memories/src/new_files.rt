@@ -67,7 +67,7 @@ pub fn write_new_bytes(i: usize, bytes: &[u8]) -> Writing
 }
 
 // Writes a text that a writer filled; says why where it was refused.
-fn write_new_text(i: usize, written: Written, text: &[u8]) -> Writing
+pub fn write_new_text(i: usize, written: Written, text: &[u8]) -> Writing
     ensures { λ r. ⌜ NewWritten (eqb (writtenOutcome written .number) 0) r ⌝ }
 {
     let outcome = written.outcome();

@@ -48,5 +48,5 @@ reads-hex p t =
     record {
       number = ap (λ (x : Outcome). x .number) (t ∙ p .answer);
       line = ap (λ (x : Outcome). x .place) (t ∙ p .answer);
-      words = p .words-are;
+      words = p .words;
     }

@@ -36,12 +36,16 @@ returns-7 c = rw (c .match .keys7) (refl, omega arith, omega arith)
 
 returns-8 : tie.Need-returns-8
 unfolding wordsOf
-returns-8 c =
+returns-8 c = rw (c .match .keys8) (refl, omega arith, omega arith)
+
+returns-9 : tie.Need-returns-9
+unfolding wordsOf
+returns-9 c =
     let key = c .before .args .key in
     let rest = c .match .rest in
-    rw (ne-eqb key 97 (rest .0 .0 .0 .0 .0 .0 .1), ne-eqb key 108 (rest .0 .0 .0 .0 .0 .1), ne-eqb key 105 (rest .0 .0 .0 .0 .1), ne-eqb key 114 (rest .0 .0 .0 .1), ne-eqb key 104 (rest .0 .0 .1), ne-eqb key 112 (rest .0 .1), ne-eqb key 101 (rest .1)) (refl, omega arith, omega arith)
+    rw (ne-eqb key 97 (rest .0 .0 .0 .0 .0 .0 .0 .1), ne-eqb key 108 (rest .0 .0 .0 .0 .0 .0 .1), ne-eqb key 109 (rest .0 .0 .0 .0 .0 .1), ne-eqb key 114 (rest .0 .0 .0 .0 .1), ne-eqb key 111 (rest .0 .0 .0 .1), ne-eqb key 112 (rest .0 .0 .1), ne-eqb key 104 (rest .0 .1), ne-eqb key 101 (rest .1)) (refl, omega arith, omega arith)
 
 pub words-of-spec : {M : Type 1} → statement M
 words-of-spec =
     tie.close
-    (tie.spec returns returns-2 returns-3 returns-4 returns-5 returns-6 returns-7 returns-8)
+    (tie.spec returns returns-2 returns-3 returns-4 returns-5 returns-6 returns-7 returns-8 returns-9)

@@ -33,12 +33,6 @@ enum-known-self-3 c = search needs
 refused-requires-4 : tie.Need-refused-requires-4
 refused-requires-4 c κs = search needs
 
-enum-known-self-4 : tie.Need-enum-known-self-4
-enum-known-self-4 c = search needs
-
-refused-requires-5 : tie.Need-refused-requires-5
-refused-requires-5 c κs = search needs
-
 returns : tie.Need-returns
 returns c = cc
 
@@ -54,9 +48,6 @@ returns-4 c = cc
 returns-5 : tie.Need-returns-5
 returns-5 c = cc
 
-returns-6 : tie.Need-returns-6
-returns-6 c = cc
-
 pub outcome-spec : {M : Type 1} → statement M
 outcome-spec =
     tie.close
@@ -71,11 +62,8 @@ outcome-spec =
     refused-requires-3
     enum-known-self-3
     refused-requires-4
-    enum-known-self-4
-    refused-requires-5
     returns
     returns-2
     returns-3
     returns-4
-    returns-5
-    returns-6)
+    returns-5)

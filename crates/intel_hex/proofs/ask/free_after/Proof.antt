@@ -1,5 +1,4 @@
 -- `intel_hex::ask::free_after` meets its contract.
-use borrow.Author.Needs.{needs}
 use native.Mathlib.Omega.{arith}
 use borrow.Author.Tests.{eq-eqb, ne-eqb}
 use Rattle.intel_hex.proofs.ask.free_after.Statement.{statement}

@@ -5,7 +5,7 @@ use mathlib.Core.List.{_++_}
 use native.Mathlib.Omega.{arith}
 use native.Mathlib.Nat.{sub-zero}
 use lib.ListN.{length, take, drop, length-set}
-use Rattle.intel_hex.specs.Reading.{wordsOf}
+use Rattle.intel_hex.specs.Words.{wordsOf}
 use Rattle.intel_hex.proofs.FillLaws.{words-turn, words-end}
 use Rattle.intel_hex.proofs.fill.fill_memory.Statement.{statement}
 use Rattle.intel_hex.proofs.fill.fill_memory.Tie as tie

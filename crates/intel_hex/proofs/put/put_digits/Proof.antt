@@ -1,12 +1,13 @@
 -- `intel_hex::put::put_digits` meets its contract.
-use Prim.Native.Nat.{_+_, _-_, _*_, _/_, _%_, _≤_, _<_}
+use Prim.Native.Nat.{_+_, _-_, _*_, _/_, _%_, _^_, _≤_, _<_}
 use mathlib.Core.Path.{_≡_, refl, _∙_}
 use native.Mathlib.Omega.{arith}
 use native.Mathlib.Nat.{add-zero, zero-add, zero-mul}
 use lib.ListN.{length, drop, getD}
 use Rattle.text.specs.Place.{put}
+use Rattle.intel_hex.specs.Words.{memoryBytes}
 use Rattle.intel_hex.specs.Record.{total}
-use Rattle.intel_hex.specs.Writing.{memoryBytes, bytePairs}
+use Rattle.intel_hex.specs.Writing.{bytePairs}
 use Rattle.intel_hex.proofs.PutLaws.{low-le, high-le, sum-turn, sum-end, digits-turn, digits-end}
 use Rattle.intel_hex.proofs.put.put_digits.Statement.{statement}
 use Rattle.intel_hex.proofs.put.put_digits.Tie as tie
@@ -39,7 +40,7 @@ half-sums-requires : tie.Need-half-sums-requires Inv-loop μ-loop
 half-sums-requires c κs = tt
 
 add-sums : tie.Need-add-sums Inv-loop μ-loop
-add-sums c = omega (arith, c .half-sums .ensures .1)
+add-sums c = omega (arith, c .half-sums .ensures, c .before .before .before .before .before .shared-slice-known2 .given (c .before .before .before .before .before .before .before .loop .i))
 
 add-i : tie.Need-add-i Inv-loop μ-loop
 add-i c = omega arith
@@ -53,12 +54,13 @@ loop-again c =
     let a = c .before .before .before .before .before .before .before .before .before .before .args in
     let p = c .before .before .before .put-hex-word in
     let half = c .half-sums .ensures in
+    let small : getD (a .words .now) (l .i) 0 < 2 ^ 32 = omega (arith, c .before .before .before .before .before .shared-slice-known2 .given (l .i)) in
     let ws = a .words .now in
     let few : l .sums % 65536 < 2040 = omega arith in (
       digits-turn ws (l .i) (l .out) _ (a .at) (omega arith) (p .ensures) ∙ l .inv .0,
-      sum-turn ws (l .i) (l .sums) _ (omega arith) (half .0) (half .1) few ∙ l .inv .1,
-      omega (arith, low-le (l .sums) (getD ws (l .i) 0) _ (half .0) (half .1) few),
-      omega (arith, high-le (l .sums) (getD ws (l .i) 0) _ (half .0) (half .1) few),
+      sum-turn ws (l .i) (l .sums) _ (omega arith) half small few ∙ l .inv .1,
+      omega (arith, low-le (l .sums) (getD ws (l .i) 0) _ half small few),
+      omega (arith, high-le (l .sums) (getD ws (l .i) 0) _ half small few),
       omega (arith, p .kept),
       omega arith,
     )

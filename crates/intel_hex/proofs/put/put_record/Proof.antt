@@ -16,6 +16,9 @@ add-put-hex-word c = search needs
 mul-put-hex-word : tie.Need-mul-put-hex-word
 mul-put-hex-word c = search needs
 
+mul-put-hex-word-2 : tie.Need-mul-put-hex-word-2
+mul-put-hex-word-2 c = search needs
+
 add-put-hex-word-2 : tie.Need-add-put-hex-word-2
 add-put-hex-word-2 c = search needs
 
@@ -83,6 +86,7 @@ put-record-spec =
     slice-write-out
     add-put-hex-word
     mul-put-hex-word
+    mul-put-hex-word-2
     add-put-hex-word-2
     put-hex-word-requires
     add-put-digits

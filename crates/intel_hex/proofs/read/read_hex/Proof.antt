@@ -8,7 +8,7 @@ use Rattle.intel_hex.proofs.read.read_hex.Statement.{statement}
 use Rattle.intel_hex.proofs.read.read_hex.Tie as tie
 
 returns : tie.Need-returns
-returns c = let a = c .before .before .before .args in wrong-length (a .words) (a .text .now) (a .memory .now) (c .if1 .taken)
+returns c = let a = c .before .before .before .args in wrong-length (a .size) (a .text .now) (a .memory .now) (c .if1 .taken)
 
 digit-values-requires : tie.Need-digit-values-requires
 digit-values-requires c κs = search needs
@@ -31,12 +31,12 @@ same-length c = search needs
 returns-2 : tie.Need-returns-2
 returns-2 c =
     let a = c .before .before .before .before .before .before .before .before .before .before .before .before .before .before .args in
-    was-filled (a .words) (a .text .now) (a .memory .now) (c .before .before .before .before .before .before .before .before .before .before .before .if1 .left) _ _ (c .before .before .before .before .before .before .before .read-records .ensures) _ (sym (c .before .before .before .before .before .before .is-filled .ensures) ∙ c .before .before .before .before .before .if2 .taken) (c .before .before .fill-memory .ensures)
+    was-filled (a .size) (a .text .now) (a .memory .now) (c .before .before .before .before .before .before .before .before .before .before .before .if1 .left) _ _ (c .before .before .before .before .before .before .before .read-records .ensures) _ (sym (c .before .before .before .before .before .before .is-filled .ensures) ∙ c .before .before .before .before .before .if2 .taken) (c .before .before .fill-memory .ensures)
 
 returns-3 : tie.Need-returns-3
 returns-3 c =
     let a = c .before .before .before .before .before .before .before .before .before .args in
-    was-refused (a .words) (a .text .now) (a .memory .now) (c .before .before .before .before .before .before .if1 .left) _ _ (c .before .before .read-records .ensures) (sym (c .before .is-filled .ensures) ∙ c .if2 .left)
+    was-refused (a .size) (a .text .now) (a .memory .now) (c .before .before .before .before .before .before .if1 .left) _ _ (c .before .before .read-records .ensures) (sym (c .before .is-filled .ensures) ∙ c .if2 .left)
 
 pub read-hex-spec : {M : Type 1} → statement M
 read-hex-spec =

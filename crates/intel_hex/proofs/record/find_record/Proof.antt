@@ -79,7 +79,7 @@ returns-4 c =
     let put = c .before .before .before .before .before .before .before .put-pairs .ensures in
     let last = c .before .before .before .before .before .before .pair-at .ensures in
     let end = c .before .before .before .before .before .record-end .ensures in
-    found-there s _ (head-stop s _ head (c .before .before .before .before .before .before .before .before .before .before .before .before .before .before .before .if1 .left)) (c .before .before .before .before .before .before .before .before .before .before .if3 .left) (head-good s _ head (c .before .before .before .before .before .before .before .before .before .before .before .before .if2 .left)) (a .bytes .now) _ _ _ _ _ _ _ _ _ _ (put .0) (put .1) (last .0) (last .1) (head .sum-is) (end .0) (end .1) (head .count-is) (head .address-is) (head .type-is) (put .3)
+    found-there s _ (head-stop s _ head (c .before .before .before .before .before .before .before .before .before .before .before .before .before .before .before .if1 .left)) (c .before .before .before .before .before .before .before .before .before .before .if3 .left) (head-good s _ head (c .before .before .before .before .before .before .before .before .before .before .before .before .if2 .left)) (a .bytes .now) _ _ _ _ _ _ _ _ _ _ (put .0) (put .1) (last .0) (last .1) (head .sum-is) (end .0) (end .1) (head .count-is) (head .address-is) (head .kind-is) (put .3)
 
 pub find-record-spec : {M : Type 1} → statement M
 find-record-spec =

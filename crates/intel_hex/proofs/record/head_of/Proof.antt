@@ -39,7 +39,7 @@ returns c =
     let second = c .before .before .before .before .before .before .before .before .before .before .before .before .before .pair-at2 .ensures in
     let third = c .before .before .before .before .before .before .before .before .before .before .before .before .pair-at3 .ensures in
     let fourth = c .before .before .before .before .before .before .before .before .before .before .before .pair-at4 .ensures in
-    record { form = rw (first .0, second .0, third .0, fourth .0); count-is = first .1; address-is = rw (second .1, third .1); type-is = fourth .1; sum-is = rw (first .1, second .1, third .1, fourth .1) }
+    record { form = rw (first .0, second .0, third .0, fourth .0); count-is = first .1; address-is = rw (second .1, third .1); kind-is = fourth .1; sum-is = rw (first .1, second .1, third .1, fourth .1) }
 
 pub head-of-spec : {M : Type 1} → statement M
 head-of-spec =

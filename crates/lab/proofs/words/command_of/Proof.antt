@@ -40,8 +40,17 @@ are-same-requires-4 c κs = search needs
 returns-4 : tie.Need-returns-4
 returns-4 c = rw (sym (c .before .before .before .before .before .before .before .before .before .before .are-same .ensures) ∙ c .before .before .before .before .before .before .before .before .before .if1 .left, sym (c .before .before .before .before .before .before .before .are-same2 .ensures) ∙ c .before .before .before .before .before .before .if2 .left, sym (c .before .before .before .before .are-same3 .ensures) ∙ c .before .before .before .if3 .left, sym (c .before .are-same4 .ensures) ∙ c .if4 .taken)
 
+slice-aggregate-are-same-5 : tie.Need-slice-aggregate-are-same-5
+slice-aggregate-are-same-5 c = search needs
+
+are-same-requires-5 : tie.Need-are-same-requires-5
+are-same-requires-5 c κs = search needs
+
 returns-5 : tie.Need-returns-5
-returns-5 c = rw (sym (c .before .before .before .before .before .before .before .before .before .before .are-same .ensures) ∙ c .before .before .before .before .before .before .before .before .before .if1 .left, sym (c .before .before .before .before .before .before .before .are-same2 .ensures) ∙ c .before .before .before .before .before .before .if2 .left, sym (c .before .before .before .before .are-same3 .ensures) ∙ c .before .before .before .if3 .left, sym (c .before .are-same4 .ensures) ∙ c .if4 .left)
+returns-5 c = rw (sym (c .before .before .before .before .before .before .before .before .before .before .before .before .before .are-same .ensures) ∙ c .before .before .before .before .before .before .before .before .before .before .before .before .if1 .left, sym (c .before .before .before .before .before .before .before .before .before .before .are-same2 .ensures) ∙ c .before .before .before .before .before .before .before .before .before .if2 .left, sym (c .before .before .before .before .before .before .before .are-same3 .ensures) ∙ c .before .before .before .before .before .before .if3 .left, sym (c .before .before .before .before .are-same4 .ensures) ∙ c .before .before .before .if4 .left, sym (c .before .are-same5 .ensures) ∙ c .if5 .taken)
+
+returns-6 : tie.Need-returns-6
+returns-6 c = rw (sym (c .before .before .before .before .before .before .before .before .before .before .before .before .before .are-same .ensures) ∙ c .before .before .before .before .before .before .before .before .before .before .before .before .if1 .left, sym (c .before .before .before .before .before .before .before .before .before .before .are-same2 .ensures) ∙ c .before .before .before .before .before .before .before .before .before .if2 .left, sym (c .before .before .before .before .before .before .before .are-same3 .ensures) ∙ c .before .before .before .before .before .before .if3 .left, sym (c .before .before .before .before .are-same4 .ensures) ∙ c .before .before .before .if4 .left, sym (c .before .are-same5 .ensures) ∙ c .if5 .left)
 
 pub command-of-spec : {M : Type 1} → statement M
 command-of-spec =
@@ -59,4 +68,7 @@ command-of-spec =
     slice-aggregate-are-same-4
     are-same-requires-4
     returns-4
-    returns-5)
+    slice-aggregate-are-same-5
+    are-same-requires-5
+    returns-5
+    returns-6)

@@ -1,0 +1,2 @@
+-- What reading a HEX file leaves.
+pub mod LoadLaws

@@ -1,0 +1,38 @@
+-- `hex_commands::words::for_memory` meets its contract.
+use mathlib.Core.Path.{sym, _∙_}
+use borrow.Author.Needs.{needs}
+use Rattle.hex_commands.proofs.words.for_memory.Statement.{statement}
+use Rattle.hex_commands.proofs.words.for_memory.Tie as tie
+
+slice-aggregate-are-same : tie.Need-slice-aggregate-are-same
+slice-aggregate-are-same c = search needs
+
+are-same-requires : tie.Need-are-same-requires
+are-same-requires c κs = search needs
+
+returns : tie.Need-returns
+returns c = rw (sym (c .before .are-same .ensures) ∙ c .if1 .taken)
+
+slice-aggregate-are-same-2 : tie.Need-slice-aggregate-are-same-2
+slice-aggregate-are-same-2 c = search needs
+
+are-same-requires-2 : tie.Need-are-same-requires-2
+are-same-requires-2 c κs = search needs
+
+returns-2 : tie.Need-returns-2
+returns-2 c = rw (sym (c .before .before .before .before .are-same .ensures) ∙ c .before .before .before .if1 .left, sym (c .before .are-same2 .ensures) ∙ c .if2 .taken)
+
+returns-3 : tie.Need-returns-3
+returns-3 c = rw (sym (c .before .before .before .before .are-same .ensures) ∙ c .before .before .before .if1 .left, sym (c .before .are-same2 .ensures) ∙ c .if2 .left)
+
+pub for-memory-spec : {M : Type 1} → statement M
+for-memory-spec =
+    tie.close
+    (tie.spec
+    slice-aggregate-are-same
+    are-same-requires
+    returns
+    slice-aggregate-are-same-2
+    are-same-requires-2
+    returns-2
+    returns-3)

@@ -13,9 +13,8 @@ use Rattle.intel_hex.specs.declared.HexRead.{HexRead}
 use Rattle.intel_hex.specs.Reading.{hexOutcome}
 use Rattle.intel_hex.specs.Answers.{hexReadOutcome}
 use Rattle.intel_hex.specs.Promises.{HexFileRead}
-use Rattle.files.specs.Front.{IsFront}
 use Rattle.files.proofs.FrontLaws.{front-self, by-front}
-use Rattle.hex_commands.specs.Loading.{mostBytes, isAccepted, HexTextRead, HexFront, Loaded}
+use Rattle.hex_commands.specs.Loading.{mostBytes, HexTextRead, HexFront, Loaded}
 
 -- Room for more than k bytes.
 pub room-above : (k n : ℕ) → k < n → k < length (replicate {A = ℕ} n 0)

@@ -2,11 +2,13 @@
 -- any memory of a multiple of 4 words, at most 16,384 of them. Assumes nothing.
 use Prim.Native.Nat.{ℕ, zero, suc, _+_, _*_, _/_, _%_, _^_, _≤_, _<_}
 use mathlib.Core.Path.{_≡_, refl, sym, _∙_, ap}
+use mathlib.Core.Bool.{false}
 use mathlib.Core.List.{List, [], _∷_, map}
 use native.Mathlib.Nat.{div-div-eq-div-mul, div-add-mod', mod-eq-of-lt}
 use native.Mathlib.Omega.{arith}
 use lib.ListN.{length, take, drop, replicate, length-drop, length-replicate, take-append-drop}
 use lib.Seq.{length-take-le, getD-drop}
+use lib.Dec.{eqb}
 use borrow.Author.Tests.{le-leb, eq-eqb}
 use Rattle.text.specs.Questions.{accepted}
 use Rattle.text.specs.Numerals.{digits, allDigits}
@@ -175,3 +177,7 @@ module _ (m : List ℕ) (fours : length m % 4 ≡ 0) (within : 4 * length m ≤ 
       let good = text-read words (length d) size size′ in
       let same : length d ≡ length m = size ∙ sym size′ in
       (p .answer ∙ good, rw good at (p .words) ∙ rw same (words-read small))
+
+-- A refused text changes no word.
+pub refused-keeps : (size : ℕ) (text d : List ℕ) (r : HexRead) (after : List ℕ) → HexFileRead size text d r after → eqb (hexReadOutcome r .number) 0 ≡ false → after ≡ d
+refused-keeps size text d r after p e = p .words ∙ rw (← (p .answer), e)

@@ -1,8 +1,9 @@
 -- The definitions computed on small texts, by the sentences of document 02.
 use Prim.Native.Nat.{ℕ}
+use Prim.Native.Char.{code}
 use Prim.Native.String.{String}
 use mathlib.Core.Path.{_≡_, refl}
-use mathlib.Core.List.{List, [], _∷_, map}
+use mathlib.Core.List.{List, [], _∷_, _++_, map}
 use lib.ListN.{replicate}
 use Rattle.text.specs.declared.Outcome.{Outcome}
 use Rattle.text.specs.Bytes.{bytes}
@@ -39,42 +40,56 @@ read-gap : hexWords 3 (bytes ":0100000011EE\n:0100050022D8\n:00000001FF\n") ≡ 
 unfolding hexWords wordsOf putRecords lines withoutCR pairValues put
 read-gap = refl
 
--- The memory's length is asked first.
-wrong-length : hexOutcome 2 3 (bytes "\n") ≡ refused 1 0
+-- The memory's length is asked first: one too short, one too long.
+wrong-length : map (λ n. hexOutcome 2 n (bytes "\n")) (1 ∷ 3 ∷ []) ≡ replicate 2 (refused 1 0)
 unfolding hexOutcome
 wrong-length = refl
 
--- ---- what the records tell
+-- Two words have 8 bytes: the last one, and one past them.
+memory-end : map (λ s. hexOutcome 2 2 (bytes s)) (":0100070011E7\n:00000001FF" ∷ ":0100080011E6\n:00000001FF" ∷ []) ≡ accepted 0 ∷ refused 19 1 ∷ []
+unfolding hexOutcome recordsOutcome firstBad freeAfterAll hasEnd isRecord lines withoutCR pairValues total allDigits
+memory-end = refl
+
+-- All 255 bytes of a record are put.
+most-bytes-put : putRecords (replicate 255 0) (recordLine (dataRecord 0 (replicate 255 1)) ∷ []) ≡ replicate 255 1
+unfolding putRecords put pairValues total recordLine bytePairs digits
+most-bytes-put = refl
+
+-- ---- what the records eachTells
 
 -- Of a text, where the memory has so many bytes; and of texts where it has 8.
 abbrev tells : (room : ℕ) → String → Outcome
 tells room text = recordsOutcome room (recordLines (bytes text))
 
-abbrev tell : List String → List Outcome
-tell texts = map (tells 8) texts
+abbrev eachTells : List String → List Outcome
+eachTells texts = map (tells 8) texts
 
 -- Both texts that are read above.
-good : tell (":0300020001fF02F9\r\n:00000001ff\r" ∷ ":0100000011EE\n:0100050022D8\n:00000001FF\n" ∷ []) ≡ replicate 2 (accepted 0)
+good : eachTells (":0300020001fF02F9\r\n:00000001ff\r" ∷ ":0100000011EE\n:0100050022D8\n:00000001FF\n" ∷ []) ≡ replicate 2 (accepted 0)
 unfolding recordsOutcome firstBad freeAfterAll hasEnd isRecord lines withoutCR pairValues total allDigits
 good = refl
 
 -- "an end record with data": 17 at its line. "or text after it": too, whether that text is a record or none.
-bad-end : tell (":0100000111ED\n" ∷ ":00000001FF\n:0100000011EE\n" ∷ ":00000001FF\nx" ∷ []) ≡ replicate 3 (refused 17 1)
+bad-end : eachTells (":0100000111ED\n" ∷ ":00000001FF\n:0100000011EE\n" ∷ ":00000001FF\nx" ∷ []) ≡ replicate 3 (refused 17 1)
 unfolding recordsOutcome firstBad freeAfterAll hasEnd isRecord lines withoutCR pairValues total allDigits
 bad-end = refl
 
 -- Any byte is text after the end: LF, CR, blank; and so is a second end.
-text-after-end : tell (":00000001FF\n\n" ∷ ":00000001FF\n\r" ∷ ":00000001FF\n " ∷ ":00000001FF\n:00000001FF\n" ∷ []) ≡ replicate 4 (refused 17 1)
+text-after-end : eachTells (":00000001FF\n\n" ∷ ":00000001FF\n\r" ∷ ":00000001FF\n " ∷ ":00000001FF\n:00000001FF\n" ∷ []) ≡ replicate 4 (refused 17 1)
 unfolding recordsOutcome firstBad freeAfterAll hasEnd isRecord lines withoutCR pairValues total allDigits
 text-after-end = refl
 
--- An end record has any address.
+control-z-after-end : recordsOutcome 8 (recordLines (bytes ":00000001FF\n" ++ (0x1A ∷ []))) ≡ refused 17 1
+unfolding recordsOutcome firstBad freeAfterAll hasEnd isRecord lines withoutCR pairValues total allDigits
+control-z-after-end = refl
+
+-- An end record may have any address.
 end-address : tells 8 ":00123401B9" ≡ accepted 0
 unfolding recordsOutcome firstBad freeAfterAll hasEnd isRecord lines withoutCR pairValues total allDigits
 end-address = refl
 
--- A record without bytes has any address, past the memory or below the last byte, and the next one is asked as if it weren't there.
-no-bytes : tell (":0100000011EE\n:00FFFF0002\n:0100010022DC\n:00000001FF" ∷ ":0100050022D8\n:0000000000\n:0100060022D7\n:00000001FF" ∷ []) ≡ replicate 2 (accepted 0)
+-- A record without bytes may have any address, past the memory or below the last byte, and the next one is asked as if it weren't there.
+no-bytes : eachTells (":0100000011EE\n:00FFFF0002\n:0100010022DC\n:00000001FF" ∷ ":0100050022D8\n:0000000000\n:0100060022D7\n:00000001FF" ∷ []) ≡ replicate 2 (accepted 0)
 unfolding recordsOutcome firstBad freeAfterAll hasEnd isRecord lines withoutCR pairValues total allDigits
 no-bytes = refl
 
@@ -95,17 +110,22 @@ past-the-disk : tells 65536 ":02FFFF001122CD\n:00000001FF" ≡ refused 19 1
 unfolding recordsOutcome firstBad freeAfterAll hasEnd isRecord lines withoutCR pairValues total allDigits
 past-the-disk = refl
 
--- The ends that the last line may have; two CRs, a CR within a line and one as the only end are of wrong form.
-line-ends : tell (":00000001FF" ∷ ":00000001FF\r" ∷ ":00000001FF\n" ∷ ":00000001FF\r\n" ∷ []) ≡ replicate 4 (accepted 0)
+-- The disk's last byte named twice.
+last-of-the-disk : tells 65536 ":01FFFF0011F0\n:01FFFF0011F0\n:00000001FF" ≡ refused 19 2
+unfolding recordsOutcome firstBad freeAfterAll hasEnd isRecord lines withoutCR pairValues total allDigits
+last-of-the-disk = refl
+
+-- The ends that the last line may have; two CRs, a CR within a line, one before it and one as the only end, and a blank are of wrong form.
+line-ends : eachTells (":00000001FF" ∷ ":00000001FF\r" ∷ ":00000001FF\n" ∷ ":00000001FF\r\n" ∷ []) ≡ replicate 4 (accepted 0)
 unfolding recordsOutcome firstBad freeAfterAll hasEnd isRecord lines withoutCR pairValues total allDigits
 line-ends = refl
 
-wrong-ends : tell (":00000001FF\r\r\n" ∷ ":0000\r0001FF\n" ∷ ":0100000011EE\r:00000001FF\r" ∷ []) ≡ replicate 3 (refused 17 1)
+wrong-ends : eachTells (":00000001FF\r\r\n" ∷ ":0000\r0001FF\n" ∷ "\r:00000001FF" ∷ ":0100000011EE\r:00000001FF\r" ∷ ":00000001FF \n" ∷ []) ≡ replicate 5 (refused 17 1)
 unfolding recordsOutcome firstBad freeAfterAll hasEnd isRecord lines withoutCR pairValues total allDigits
 wrong-ends = refl
 
 -- An empty line is of wrong form, also one of a CR or a blank; after a record it is so at its own line.
-empty-line : tell ("\n" ∷ "\r\n" ∷ "\r" ∷ " \n" ∷ []) ≡ replicate 4 (refused 17 1)
+empty-line : eachTells ("\n" ∷ "\r\n" ∷ "\r" ∷ " \n" ∷ []) ≡ replicate 4 (refused 17 1)
 unfolding recordsOutcome firstBad freeAfterAll hasEnd isRecord lines withoutCR pairValues total allDigits
 empty-line = refl
 
@@ -118,21 +138,30 @@ empty-text : tells 8 "" ≡ refused 18 1
 unfolding recordsOutcome firstBad freeAfterAll hasEnd isRecord lines withoutCR pairValues total allDigits
 empty-text = refl
 
-missing-end : tell (":0100000011EE" ∷ ":0100000011EE\n" ∷ []) ≡ replicate 2 (refused 18 2)
+missing-end : eachTells (":0100000011EE" ∷ ":0100000011EE\n" ∷ []) ≡ replicate 2 (refused 18 2)
 unfolding recordsOutcome firstBad freeAfterAll hasEnd isRecord lines withoutCR pairValues total allDigits
 missing-end = refl
 
--- "a wrong form": a blank before the `:`, no `:`, one digit more, a byte less than the count says.
-wrong-form : tell (" :00000001FF" ∷ "00000001FF" ∷ ":00000001FF0" ∷ ":0200000011ED" ∷ []) ≡ replicate 4 (refused 17 1)
+missing-end-of-two : tells 8 ":0100000011EE\n:0100010022DC\n" ≡ refused 18 3
+unfolding recordsOutcome firstBad freeAfterAll hasEnd isRecord lines withoutCR pairValues total allDigits
+missing-end-of-two = refl
+
+-- "a wrong form": a blank before the `:`, no `:`, another byte in its place, one digit more, a byte more or less than the count says.
+wrong-form : eachTells (" :00000001FF" ∷ "00000001FF" ∷ ";00000001FF" ∷ ":00000001FF0" ∷ ":00000001FF00" ∷ ":0200000011ED" ∷ []) ≡ replicate 6 (refused 17 1)
 unfolding recordsOutcome firstBad freeAfterAll hasEnd isRecord lines withoutCR pairValues total allDigits
 wrong-form = refl
 
--- "digit or checksum": the value of `G` would give the right sum.
-wrong-digit : tells 8 ":000000G1FF" ≡ refused 17 1
+-- "digit or checksum": the value of `G` would give the right sum, in the address, the type, the data and the checksum; and in the count.
+wrong-digit : eachTells (":00G00001FF" ∷ ":0000FG01FF" ∷ ":000000G1FF" ∷ ":010000000GEF" ∷ ":00000000FG" ∷ []) ≡ replicate 5 (refused 17 1)
 unfolding recordsOutcome firstBad freeAfterAll hasEnd isRecord lines withoutCR pairValues total allDigits
 wrong-digit = refl
 
-wrong-checksum : tells 8 ":00000001FE" ≡ refused 17 1
+wrong-count : recordsOutcome 256 ((bytes ":G0000000" ++ replicate 514 (code "0")) ∷ []) ≡ refused 17 1
+unfolding recordsOutcome firstBad freeAfterAll hasEnd isRecord pairValues total allDigits
+wrong-count = refl
+
+-- Wrong by 1, wrong by 128, and 00 on a data record.
+wrong-checksum : eachTells (":00000001FE" ∷ ":000000017F" ∷ ":010000001100" ∷ []) ≡ replicate 3 (refused 17 1)
 unfolding recordsOutcome firstBad freeAfterAll hasEnd isRecord lines withoutCR pairValues total allDigits
 wrong-checksum = refl
 
@@ -142,7 +171,7 @@ unfolding recordsOutcome firstBad freeAfterAll hasEnd isRecord lines withoutCR p
 first-bad = refl
 
 -- "in this order": another type with a wrong checksum and an end with data past the memory are 17; another type past the memory is 18.
-order-17 : tell (":020000040000FB" ∷ ":01FFFF010000" ∷ []) ≡ replicate 2 (refused 17 1)
+order-17 : eachTells (":020000040000FB" ∷ ":01FFFF010000" ∷ []) ≡ replicate 2 (refused 17 1)
 unfolding recordsOutcome firstBad freeAfterAll hasEnd isRecord lines withoutCR pairValues total allDigits
 order-17 = refl
 
@@ -164,7 +193,7 @@ most-bytes : recordsOutcome 255 (recordLine (dataRecord 0 (replicate 255 0)) ∷
 unfolding recordsOutcome firstBad freeAfterAll hasEnd isRecord pairValues total allDigits recordLine bytePairs digits
 most-bytes = refl
 
--- "another type": 04, of two bytes or three.
-other-type : tell (":020000040000FA\n:00000001FF" ∷ ":03000004000000F9\n:00000001FF" ∷ []) ≡ replicate 2 (refused 18 1)
+-- "another type": 04, of two bytes or three; 02, 10 and 80 without bytes; 03 and 05.
+other-type : eachTells (":020000040000FA\n:00000001FF" ∷ ":03000004000000F9\n:00000001FF" ∷ ":00000002FE" ∷ ":00000010F0" ∷ ":0000008080" ∷ ":0400000300003800C1" ∷ ":04000005000000CD2A" ∷ []) ≡ replicate 7 (refused 18 1)
 unfolding recordsOutcome firstBad freeAfterAll hasEnd isRecord lines withoutCR pairValues total allDigits
 other-type = refl

@@ -8,14 +8,14 @@ use lib.Dec.{eqb, ltb}
 use lib.ListN.{length, getD}
 use Rattle.text.specs.Numerals.{digitValue}
 use Rattle.text.specs.declared.Outcome.{Outcome}
-use Rattle.text.specs.Questions.{accepted, firstNo, unlessRefused}
+use Rattle.text.specs.Questions.{accepted, firstNo}
 use Rattle.text.specs.Lines.{firstLine, endsLine}
 use Rattle.text.specs.Place.{put}
 use Rattle.intel_hex.specs.declared.HexRead.{HexRead}
 use Rattle.intel_hex.specs.declared.record.Found.{Found}
 use Rattle.intel_hex.specs.declared.record.Head.{Head}
 use Rattle.intel_hex.specs.Record.{pairByte, lineBytes, dataCount, address, kind, dataBytes, isRecord}
-use Rattle.intel_hex.specs.Reading.{CR, withoutCR, recordLines, isRightEnd, isReadType, isPlaced, recordsOutcome, putRecords, hexOutcome, hexWords}
+use Rattle.intel_hex.specs.Reading.{CR, withoutCR, recordLines, isRightEnd, isReadType, isPlaced, recordsOutcome, putRecords}
 use Rattle.intel_hex.specs.Answers.{hexReadOutcome}
 
 -- Every byte that a record can name lies below this address: 255 bytes from 65,535 on, in whole words.

@@ -1,16 +1,13 @@
 // Memories written as new HEX files, beside the old ones.
 use console::Writing;
+use hex_files::DATA_HEX;
+use hex_files::DISK_HEX;
 use hex_files::write_hex_data;
 use hex_files::write_hex_disk;
 use memories::write_new_text;
 ghost use lib.ListN.{length};
 ghost use Rattle.files.specs.Sizes.{isDataLength, isDiskLength};
 ghost use Rattle.memories.specs.NewFiles.{NewWritten};
-
-// The bytes of a HEX file of data and of the disk.
-const DATA_HEX: usize = 45_068;
-
-const DISK_HEX: usize = 180_236;
 
 // Writes the data memory as a new HEX file, under the name that an argument gives.
 pub fn write_new_hex_data(i: usize, memory: &[u32]) -> Writing

@@ -31,15 +31,19 @@ total (b ∷ bs) = b + total bs
 
 -- ---- what the bytes b of a record say
 
+-- How many data bytes it has, ..
 abbrev pub dataCount : List ℕ → ℕ
 dataCount b = getD b 0 0
 
+-- .. the address of the first of them, ..
 abbrev pub address : List ℕ → ℕ
 address b = getD b 1 0 * 256 + getD b 2 0
 
+-- .. its type: 0 is data, 1 the end; ..
 abbrev pub kind : List ℕ → ℕ
 kind b = getD b 3 0
 
+-- .. and the data bytes.
 abbrev pub dataBytes : List ℕ → List ℕ
 dataBytes b = take (dataCount b) (drop 4 b)
 
@@ -49,6 +53,7 @@ dataBytes b = take (dataCount b) (drop 4 b)
 abbrev pub hasForm : List ℕ → Bool
 hasForm l = eqb (getD l 0 0) (code ":") && eqb (length l) (2 * dataCount (lineBytes l) + 11)
 
+-- After the `:` it has digits alone.
 abbrev pub hasDigits : List ℕ → Bool
 hasDigits l = allDigits 16 (drop 1 l)
 

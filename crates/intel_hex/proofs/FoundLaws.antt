@@ -11,7 +11,7 @@ use borrow.Author.Tests.{ltb-true, ne-eqb, eqb-false, not-true, not-false}
 use Rattle.text.specs.Numerals.{digitValue, allDigits}
 use Rattle.text.specs.Lines.{firstLine}
 use Rattle.text.specs.Place.{put}
-use Rattle.text.proofs.Truth.{and-left, and-right}
+use Rattle.text.proofs.Truth.{and-left, and-right, both-ways}
 use Rattle.text.proofs.PutLaws.{length-put}
 use Rattle.text.proofs.RangeLaws.{below-mod}
 use Rattle.intel_hex.specs.declared.record.Found.{Found}
@@ -95,12 +95,6 @@ module _ (s : List ℕ) where
 
 -- ---- a record, or not
 
--- Two tests that hold together are the same.
-both : (a b : Bool) → (a ≡ true → b ≡ true) → (b ≡ true → a ≡ true) → a ≡ b
-both true b f g = sym (f refl)
-both false true f g = g refl
-both false false f g = refl
-
 no-line : (s : List ℕ) → length (firstLine s) ≡ 0 → length (firstRecord s) ≡ 0
 unfolding withoutCR
 no-line s e = go (firstLine s) e
@@ -125,7 +119,7 @@ module _ (s : List ℕ) (n : ℕ) (count : n ≡ recordStop s) (fits : n ≤ len
   on-front good = let st = stands s good in (rw count (st .is-front), rw count (st .ends))
 
   pub found-is : (front && not (eqb (recordEnd s n) 0)) ≡ isRecord (firstRecord s)
-  found-is = both _ _ there back
+  found-is = both-ways _ _ there back
     where
       there : (front && not (eqb (recordEnd s n) 0)) ≡ true → isRecord (firstRecord s) ≡ true
       there e =

@@ -95,11 +95,6 @@ module _ (s : List ℕ) (k : ℕ) (h : length s ≤ 2 * k) where
 
 -- ---- bytes side by side
 
-pub digits-append : (a b : List ℕ) → allDigits 16 (a ++ b) ≡ (allDigits 16 a && allDigits 16 b)
-unfolding allDigits
-digits-append [] b = refl
-digits-append (c ∷ a) b = rw (digits-append a b) (sym (and-assoc (ltb (digitValue c) 16) _ _))
-
 pub values-append : (n : ℕ) (a b : List ℕ) → length a ≡ 2 * n → pairValues (a ++ b) ≡ pairValues a ++ pairValues b
 unfolding pairValues
 values-append n [] b h = refl

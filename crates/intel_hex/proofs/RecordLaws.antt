@@ -1,5 +1,5 @@
 -- Laws of one record: what its bytes say, and the line on which it stands. Assumes nothing.
-use Prim.Native.Nat.{ℕ, zero, suc, _+_, _-_, _*_, _%_, _≤_, _<_}
+use Prim.Native.Nat.{ℕ, suc, _+_, _-_, _*_, _%_, _≤_, _<_}
 use Prim.Native.Char.{code}
 use mathlib.Core.Path.{_≡_, refl, sym, _∙_, ap}
 use mathlib.Core.Bool.{Bool, true, false, cond, _&&_, true≢false, and-true}
@@ -10,15 +10,16 @@ use native.Mathlib.Numerals.{add-one}
 use lib.ListN.{length, getD, take, drop, length-drop}
 use lib.Seq.{length-take-le, getD-take, take-take, take-add, take-suc, drop-at, drop-drop, take-at}
 use lib.Dec.{eqb, ltb}
-use borrow.Author.Tests.{lt-ltb, ltb-true, eq-eqb, ne-eqb, eqb-true}
+use borrow.Author.Tests.{lt-ltb, eq-eqb, ne-eqb, eqb-true}
 use Rattle.text.specs.Numerals.{digitValue, allDigits}
 use Rattle.text.specs.Lines.{LF, firstLine, endsLine}
 use Rattle.text.proofs.Truth.{and-left, and-right}
-use Rattle.text.proofs.LineLaws.{NoLF, digits-no-lf, first-le, first-front, first-ends, first-is}
+use Rattle.text.proofs.DigitLaws.{all-append, digit-of}
+use Rattle.text.proofs.LineLaws.{NoLF, no-lf-append, goes-on, digits-no-lf, first-le, first-front, first-ends, first-is}
 use Rattle.intel_hex.specs.Record.{pairValues, total, lineBytes, dataCount, address, kind, dataBytes, hasForm, hasDigits, hasChecksum, isRecord}
 use Rattle.intel_hex.specs.Reading.{CR, withoutCR}
 use Rattle.intel_hex.specs.Steps.{isPair, pairValue, isHead, firstRecord, recordEnd}
-use Rattle.intel_hex.proofs.PairLaws.{two-first, digits-first, values-first, digits-append, values-append, length-values, total-append}
+use Rattle.intel_hex.proofs.PairLaws.{two-first, digits-first, values-first, values-append, length-values, total-append}
 
 -- ---- what a record has
 
@@ -109,7 +110,7 @@ module _ (s : List ℕ) (n : ℕ) (count : n ≡ recordStop s) (fits : n ≤ len
 
   tail-digits : allDigits 16 (drop 9 (take n s)) ≡ (allDigits 16 dataDigits && isPair s (n - 2))
   unfolding allDigits
-  tail-digits = ap (allDigits 16) tail-is ∙ digits-append dataDigits (getD s (n - 2) 0 ∷ getD s (n - 2 + 1) 0 ∷ []) ∙ rw and-true
+  tail-digits = ap (allDigits 16) tail-is ∙ all-append 16 dataDigits (getD s (n - 2) 0 ∷ getD s (n - 2 + 1) 0 ∷ []) ∙ rw and-true
 
   tail-values : pairValues (drop 9 (take n s)) ≡ pairValues dataDigits ++ (pairValue s (n - 2) ∷ [])
   unfolding pairValues
@@ -174,19 +175,12 @@ unfolding NoLF
 record-no-lf [] good = tt
 record-no-lf (c ∷ l) good = (λ e. let colon = record-colon (c ∷ l) good in omega arith, digits-no-lf 16 l (omega arith) (record-digits (c ∷ l) good))
 
--- Each of some digits is one.
-digit-at : (s : List ℕ) (i : ℕ) → allDigits 16 s ≡ true → i < length s → digitValue (getD s i 0) < 16
-unfolding allDigits
-digit-at [] i e h = absurd (omega arith)
-digit-at (c ∷ s) zero e h = ltb-true (digitValue c) 16 (and-left (ltb (digitValue c) 16) (allDigits 16 s) e)
-digit-at (c ∷ s) (suc i) e h = digit-at s i (and-right (ltb (digitValue c) 16) (allDigits 16 s) e) (omega arith)
-
 -- A line that ends in a digit has no CR to lose.
 pub no-cr : (c : ℕ) (s : List ℕ) → allDigits 16 s ≡ true → 0 < length s → withoutCR (c ∷ s) ≡ c ∷ s
 unfolding withoutCR
 no-cr c [] e h = absurd (omega arith)
 no-cr c (d ∷ s) e h =
-    let last = digit-at (d ∷ s) (length s) e (omega arith) in
+    let last = digit-of 16 (d ∷ s) (length s) e (omega arith) in
     let size : length (c ∷ d ∷ s) - 1 ≡ suc (length s) = omega arith in
     rw (size, ne-eqb (getD (d ∷ s) (length s) 0) CR (λ q. let none : digitValue (getD (d ∷ s) (length s) 0) ≡ 16 = ap digitValue q in omega arith))
 
@@ -251,19 +245,6 @@ module _ (s : List ℕ) (good : isRecord (firstRecord s) ≡ true) where
           let inside : ltb (recordStop s) (length s) ≡ true = lt-ltb (recordStop s) (length s) (omega arith) in
           let after : endsLine s (recordStop s + 1) ≡ true = rw next (first-ends s) in
           record { fits = omega arith; is-front = rw (← n) (e .2); ends = rw (inside, cr, after) next }
-
-no-lf-append : (a b : List ℕ) → NoLF a → NoLF b → NoLF (a ++ b)
-unfolding NoLF
-no-lf-append [] b na nb = nb
-no-lf-append (c ∷ a) b na nb = (na .0, no-lf-append a b (na .1) nb)
-
--- Where no line can end the text goes on.
-pub goes-on : (s : List ℕ) (n : ℕ) → endsLine s n ≡ false → n < length s
-goes-on s n e = go (ltb n (length s)) refl e
-  where
-    go : (t : Bool) → ltb n (length s) ≡ t → cond t (eqb (getD s n 0) LF) true ≡ false → n < length s
-    go true h e = ltb-true n (length s) h
-    go false h e = absurd (true≢false e)
 
 -- The other way round: a front that is a record, where its line ends right after it, stands on the first line.
 module _ (s : List ℕ) (n : ℕ) (fits : n ≤ length s) (good : isRecord (take n s) ≡ true) where

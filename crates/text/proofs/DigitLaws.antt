@@ -1,7 +1,7 @@
 -- Laws of numerals, over the base and the number of digits. Assumes nothing.
 use Prim.Native.Nat.{ℕ, zero, suc, _+_, _*_, _/_, _%_, _^_, _≤_, _<_, zero-le}
 use mathlib.Core.Path.{_≡_, refl, sym, _∙_, ap}
-use mathlib.Core.Bool.{Bool, true, false, cond, _&&_}
+use mathlib.Core.Bool.{Bool, true, false, cond, _&&_, and-assoc}
 use mathlib.Core.List.{List, [], _∷_, _++_, append-assoc, append-nil}
 use native.Mathlib.Nat.{add-zero, add-suc, zero-add, zero-mul, pow-zero, pow-suc, pow-succ', mod-lt, add-mul, mul-assoc, mul-comm, add-assoc, mul-one, mod-one, div-one, div-div-eq-div-mul, one-le-pow, pow-le-pow-right, lt-of-lt-of-le, lt-of-le-of-lt, le-trans, one-mul}
 use native.Mathlib.Omega.{arith}
@@ -106,6 +106,21 @@ module _ (b : ℕ) (some : 0 < b) where
     value-written k v =
         sym (value-is b (digits b k v))
         ∙ rw (← append-nil (digits b k v)) (value-digits k v 0 [] ∙ rw (zero-mul, zero-add))
+
+-- ---- digits among bytes
+
+-- Digits side by side.
+pub all-append : (b : ℕ) (s t : List ℕ) → allDigits b (s ++ t) ≡ (allDigits b s && allDigits b t)
+unfolding allDigits
+all-append b [] t = refl
+all-append b (c ∷ s) t = rw (all-append b s t) (sym (and-assoc (ltb (digitValue c) b) _ _))
+
+-- Each of some digits is one.
+pub digit-of : (b : ℕ) (s : List ℕ) (i : ℕ) → allDigits b s ≡ true → i < length s → digitValue (getD s i 0) < b
+unfolding allDigits
+digit-of b [] i e h = absurd (omega arith)
+digit-of b (c ∷ s) zero e h = ltb-true (digitValue c) b (and-left (ltb (digitValue c) b) (allDigits b s) e)
+digit-of b (c ∷ s) (suc i) e h = digit-of b s i (and-right (ltb (digitValue c) b) (allDigits b s) e) (omega arith)
 
 -- ---- the digits that are read
 

@@ -1,7 +1,7 @@
 -- Laws of the lines of a text. Assumes nothing.
 use Prim.Native.Nat.{ℕ, zero, suc, _+_, _-_, _≤_, _<_}
 use mathlib.Core.Path.{_≡_, refl, _∙_, ap}
-use mathlib.Core.Bool.{Bool, true, false, cond, _||_}
+use mathlib.Core.Bool.{Bool, true, false, cond, _||_, true≢false}
 use mathlib.Core.List.{List, [], _∷_, _++_, map}
 use native.Mathlib.Nat.{add-suc, not-suc-le-zero, le-of-suc-le-suc}
 use native.Mathlib.Omega.{arith}
@@ -19,6 +19,11 @@ use Rattle.text.proofs.DigitLaws.{all-written}
 unfoldable pub NoLF : List ℕ → Type 0
 NoLF [] = Unit {0}
 NoLF (c ∷ s) = (c ≡ LF → ⊥) × NoLF s
+
+pub no-lf-append : (a b : List ℕ) → NoLF a → NoLF b → NoLF (a ++ b)
+unfolding NoLF
+no-lf-append [] b na nb = nb
+no-lf-append (c ∷ a) b na nb = (na .0, no-lf-append a b (na .1) nb)
 
 -- None of the lines has one.
 unfoldable pub NoneLF : List (List ℕ) → Type 0
@@ -105,6 +110,14 @@ first-ends s = go (ltb (length (firstLine s)) (length s)) refl
     go : (t : Bool) → ltb (length (firstLine s)) (length s) ≡ t → cond t (eqb (getD s (length (firstLine s)) 0) LF) true ≡ true
     go true e = eq-eqb _ _ (first-stop s (ltb-true _ _ e))
     go false e = refl
+
+-- Where no line can end the text goes on.
+pub goes-on : (s : List ℕ) (n : ℕ) → endsLine s n ≡ false → n < length s
+goes-on s n e = go (ltb n (length s)) refl e
+  where
+    go : (t : Bool) → ltb n (length s) ≡ t → cond t (eqb (getD s n 0) LF) true ≡ false → n < length s
+    go true h e = ltb-true n (length s) h
+    go false h e = absurd (true≢false e)
 
 -- Bytes without an LF, where a line can end after them, are the first line.
 pub first-is : (k : ℕ) (s : List ℕ) → k ≤ length s → NoLF (take k s) → endsLine s k ≡ true → firstLine s ≡ take k s

@@ -2,7 +2,8 @@
 use borrow.Author.Needs.{needs}
 use mathlib.Core.Path.{sym, _∙_}
 use native.Mathlib.Omega.{arith}
-use Rattle.intel_hex.proofs.RecordLaws.{goes-on, ends-at, no-cr-there, ends-after, ends-nowhere}
+use Rattle.text.proofs.LineLaws.{goes-on}
+use Rattle.intel_hex.proofs.RecordLaws.{ends-at, no-cr-there, ends-after, ends-nowhere}
 use Rattle.intel_hex.proofs.record.record_end.Statement.{statement}
 use Rattle.intel_hex.proofs.record.record_end.Tie as tie
 

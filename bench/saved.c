@@ -1,7 +1,10 @@
-// The proved saving and reading of a record beside a plain packer in C, from document 01 alone.
+// The proved saving and reading of a record beside a plain packer in C, from document 01 alone, and beside the save before.
 //
-// Both save and read random records, sound and unsound, and random bytes; the bytes and the answers must be equal. Then each
-// is timed, with its test of soundness. bench/saved builds and runs this file:
+// "Before" is the proved save as it was before it built words of 32 bits: it builds the bytes one at a time and tests the
+// widths value by value. The library no longer has it; crate bench_saved keeps it, in by_bytes.rt, for this file.
+//
+// All save random records, sound and unsound, and read what was saved and random bytes; the bytes and the answers must be
+// equal. Then each is timed, with its test of soundness. bench/saved builds and runs this file:
 //
 //     bench/saved            runs of 100,000 saves and of as many readings
 //     bench/saved 5000       runs of so many
@@ -17,8 +20,9 @@
 enum { BYTES = 91, ROOM = BYTES + 1, REGISTERS = 13, IO = 23, RUNS = 200, RECORDS = 400000 };
 
 // The proved ones. Saves a record at its age and at each after it below `to`, and returns how many saves were accepted.
+// by_bytes chooses the save before.
 uint64_t simp_bench_saves(uint32_t status, uint32_t handler, uint32_t pc, uint64_t age, uint32_t left, const uint32_t *regs,
-                          const uint32_t *io, uint64_t to, uint8_t *bytes, size_t bytes_length);
+                          const uint32_t *io, bool by_bytes, uint64_t to, uint8_t *bytes, size_t bytes_length);
 // Reads bytes n times, saves the record that was read last to `out`, and returns how many readings were accepted.
 uint64_t simp_bench_loads(const uint8_t *bytes, size_t bytes_length, uint64_t n, uint8_t *out, size_t out_length);
 
@@ -111,15 +115,12 @@ static inline bool c_load(const uint8_t *bytes, size_t length, struct record *r)
 }
 
 // The same as the proved functions.
-__attribute__((noinline)) uint64_t c_saves(uint32_t status, uint32_t handler, uint32_t pc, uint64_t age, uint32_t left, const uint32_t *regs,
-                                           const uint32_t *io, uint64_t to, uint8_t *bytes, size_t bytes_length)
+__attribute__((noinline)) uint64_t c_saves(const struct record *first, uint64_t n, uint8_t *bytes, size_t length)
 {
-    struct record r = { .status = status, .handler = handler, .pc = pc, .left = left, .age = age };
-    memcpy(r.regs, regs, sizeof r.regs);
-    memcpy(r.io, io, sizeof r.io);
-    uint64_t done = 0;
+    struct record r = *first;
+    uint64_t to = r.age + n, done = 0;
     for (; r.age < to; r.age++)
-        done += c_save(&r, bytes, bytes_length);
+        done += c_save(&r, bytes, length);
     return done;
 }
 
@@ -189,48 +190,64 @@ static void spoil(struct record *r)
     }
 }
 
-// ---- both side by side
+// ---- all side by side
 
-typedef uint64_t saver(uint32_t, uint32_t, uint32_t, uint64_t, uint32_t, const uint32_t *, const uint32_t *, uint64_t, uint8_t *, size_t);
-typedef uint64_t loader(const uint8_t *, size_t, uint64_t, uint8_t *, size_t);
+// Save a record n times, each time a cycle older, or read bytes n times; return how many times were accepted.
+typedef uint64_t saver(const struct record *r, uint64_t n, uint8_t *bytes, size_t length);
+typedef uint64_t loader(const uint8_t *bytes, size_t length, uint64_t n, uint8_t *out, size_t out_length);
 
-static uint64_t save_with(saver *f, const struct record *r, uint64_t n, uint8_t *bytes, size_t length)
+static uint64_t proved_saves(const struct record *r, uint64_t n, uint8_t *bytes, size_t length)
 {
-    return f(r->status, r->handler, r->pc, r->age, r->left, r->regs, r->io, r->age + n, bytes, length);
+    return simp_bench_saves(r->status, r->handler, r->pc, r->age, r->left, r->regs, r->io, false, r->age + n, bytes, length);
+}
+
+static uint64_t before_saves(const struct record *r, uint64_t n, uint8_t *bytes, size_t length)
+{
+    return simp_bench_saves(r->status, r->handler, r->pc, r->age, r->left, r->regs, r->io, true, r->age + n, bytes, length);
 }
 
 static bool differ(const char *what, uint64_t number)
 {
-    printf("%s of random record %llu: proved and C DIFFER\n", what, (unsigned long long)number);
+    printf("%s of random record %llu: bytes or answers DIFFER\n", what, (unsigned long long)number);
     return false;
 }
 
-// Other bytes for both sides.
-static void fill(uint8_t *a, uint8_t *b)
+// Random bytes.
+static void fill(uint8_t *bytes)
 {
     for (int i = 0; i < ROOM; i++)
-        a[i] = b[i] = draw() >> 8;
+        bytes[i] = draw() >> 8;
+}
+
+// Whether a saver answers as C did, and makes of the bytes `from` what C made of them.
+static bool saves_alike(saver *f, const struct record *r, size_t length, const uint8_t *from, uint64_t done, const uint8_t *bytes)
+{
+    uint8_t a[ROOM];
+    memcpy(a, from, ROOM);
+    return f(r, 1, a, length) == done && !memcmp(a, bytes, ROOM);
 }
 
 // Saves a random record, every other one spoiled; leaves the bytes.
 static bool compare_saving(uint64_t number, size_t length, uint8_t *bytes, uint64_t *saved)
 {
     struct record r;
-    uint8_t a[ROOM];
+    uint8_t from[ROOM];
     random_sound(&r);
     if (number % 2)
         spoil(&r);
-    fill(a, bytes);
-    uint64_t done = save_with(c_saves, &r, 1, bytes, length);
+    fill(from);
+    memcpy(bytes, from, ROOM);
+    uint64_t done = c_saves(&r, 1, bytes, length);
     *saved += done;
-    return save_with(simp_bench_saves, &r, 1, a, length) == done && !memcmp(a, bytes, ROOM);
+    return saves_alike(proved_saves, &r, length, from, done, bytes) && saves_alike(before_saves, &r, length, from, done, bytes);
 }
 
 // Reads bytes: of four, two as they were saved, one with a bit changed, one random behind the edition.
 static bool compare_reading(uint64_t number, size_t length, uint8_t *bytes, uint64_t *read)
 {
     uint8_t a[ROOM], b[ROOM];
-    fill(a, b);
+    fill(a);
+    memcpy(b, a, ROOM);
     if (number % 4 == 2)
         bytes[random_below(BYTES)] ^= 1u << random_below(8);
     if (number % 4 == 3) {
@@ -269,7 +286,7 @@ static double now(void)
 static double time_saves(saver *f, const struct record *r, uint64_t n, uint8_t *bytes)
 {
     double from = now();
-    if (save_with(f, r, n, bytes, BYTES) != n)
+    if (f(r, n, bytes, BYTES) != n)
         printf("a save was refused\n");
     return now() - from;
 }
@@ -287,9 +304,46 @@ static double least(double a, double b)
     return a < b ? a : b;
 }
 
-static void print_row(const char *what, double proved, double plain, uint64_t n, bool same)
+static void print_header(uint64_t n)
 {
-    printf("%-8s %8.2f %8.2f %8.2f  %s\n", what, proved / n, plain / n, proved / plain, same ? "equal" : "DIFFER");
+    printf("%llu turns a run, ns a turn, the best of %d runs\n", (unsigned long long)n, RUNS);
+    printf("proved: the library; before: the proved save by bytes, as it was before words\n");
+    printf("goals of a save: proved/before at most 0.50, proved/C at most 0.80\n");
+    printf("%-8s %8s %8s %8s %14s %9s  %s\n", "", "proved", "before", "C", "proved/before", "proved/C", "bytes");
+}
+
+static const char *equal(bool same)
+{
+    return same ? "equal" : "DIFFER";
+}
+
+// Times the three saves, prints their row and leaves the bytes.
+static bool measure_saves(const struct record *r, uint64_t n, uint8_t *bytes)
+{
+    uint8_t a[BYTES] = { 0 }, b[BYTES] = { 0 };
+    double proved = 1e300, before = 1e300, plain = 1e300;
+    for (int i = 0; i < RUNS; i++) {
+        proved = least(proved, time_saves(proved_saves, r, n, a));
+        before = least(before, time_saves(before_saves, r, n, b));
+        plain = least(plain, time_saves(c_saves, r, n, bytes));
+    }
+    bool same = !memcmp(a, bytes, BYTES) && !memcmp(b, bytes, BYTES);
+    printf("%-8s %8.2f %8.2f %8.2f %14.2f %9.2f  %s\n", "save", proved / n, before / n, plain / n, proved / before, proved / plain, equal(same));
+    return same;
+}
+
+// Times the two readings and prints their row; it has no time before.
+static bool measure_loads(const uint8_t *bytes, uint64_t n)
+{
+    uint8_t a[BYTES] = { 0 }, b[BYTES] = { 0 };
+    double proved = 1e300, plain = 1e300;
+    for (int i = 0; i < RUNS; i++) {
+        proved = least(proved, time_loads(simp_bench_loads, bytes, n, a));
+        plain = least(plain, time_loads(c_loads, bytes, n, b));
+    }
+    bool same = !memcmp(a, bytes, BYTES) && !memcmp(b, bytes, BYTES);
+    printf("%-8s %8.2f %8s %8.2f %14s %9.2f  %s\n", "load", proved / n, "", plain / n, "", proved / plain, equal(same));
+    return same;
 }
 
 int main(int argc, char **argv)
@@ -303,20 +357,10 @@ int main(int argc, char **argv)
         return 1;
 
     struct record r;
+    uint8_t bytes[BYTES] = { 0 };
     random_sound(&r);
     r.age = 1000000;
-    uint8_t a[BYTES] = { 0 }, b[BYTES] = { 0 }, c[BYTES] = { 0 }, d[BYTES] = { 0 };
-    double saves = 1e300, c_save_time = 1e300, loads = 1e300, c_load_time = 1e300;
-    for (int i = 0; i < RUNS; i++) {
-        saves = least(saves, time_saves(simp_bench_saves, &r, n, a));
-        c_save_time = least(c_save_time, time_saves(c_saves, &r, n, b));
-        loads = least(loads, time_loads(simp_bench_loads, a, n, c));
-        c_load_time = least(c_load_time, time_loads(c_loads, b, n, d));
-    }
-    bool same = !memcmp(a, b, BYTES), back = !memcmp(a, c, BYTES) && !memcmp(b, d, BYTES);
-    printf("%llu turns a run, ns a turn, the best of %d runs\n", (unsigned long long)n, RUNS);
-    printf("%-8s %8s %8s %8s  %s\n", "", "proved", "C", "ratio", "bytes");
-    print_row("save", saves, c_save_time, n, same);
-    print_row("load", loads, c_load_time, n, back);
+    print_header(n);
+    bool same = measure_saves(&r, n, bytes), back = measure_loads(bytes, n);
     return same && back ? 0 : 1;
 }

@@ -1,4 +1,5 @@
 // A record saved and read again and again: what bench/ measures.
+use crate::by_bytes::save_by_bytes;
 use machine::Core;
 use machine::Record;
 use saved::LoadAnswer;
@@ -9,10 +10,13 @@ use saved::save;
 ghost use mathlib.Core.Path.{_≡_};
 ghost use Prim.Native.Nat.{_-_};
 ghost use Rattle.saved.specs.Answers.{savedOutcome, loadedOutcome};
-ghost use Rattle.saved.specs.Calls.{saveBytes};
+ghost use Rattle.saved.specs.Calls.{saveOutcome, saveBytes};
 ghost use Rattle.bench_saved.specs.Turns.{one, given, saves, savesDone, loads, loadsDone};
 
-// Saves a record at its age and at each after it below `to`, into the same bytes; returns how many saves were accepted.
+mod by_bytes;
+
+// Saves a record at its age and at each after it below `to`, into the same bytes; returns how many saves were accepted. `by_bytes` chooses the save
+// as it was before words.
 #[no_mangle]
 pub extern "C" fn simp_bench_saves(
     status: u32,
@@ -22,6 +26,7 @@ pub extern "C" fn simp_bench_saves(
     left: u32,
     regs: &[u32; 13],
     io: &[u32; 23],
+    by_bytes: bool,
     to: u64,
     bytes: &mut [u8],
 ) -> u64
@@ -40,20 +45,26 @@ pub extern "C" fn simp_bench_saves(
         regs: *regs,
         io: *io,
     };
-    make_saves(r, to, bytes)
+    make_saves(by_bytes, r, to, bytes)
 }
 
 // The loop.
-fn make_saves(r: Record, to: u64, bytes: &mut [u8]) -> u64
+fn make_saves(by_bytes: bool, r: Record, to: u64, bytes: &mut [u8]) -> u64
     ensures { λ n. ⌜ n ≡ savesDone r (to - r .core .age) (now (bytes .entry)) ⌝ }
     ensures { λ _. ⌜ now (bytes .exit) ≡ saves r (to - r .core .age) (now (bytes .entry)) ⌝ }
 {
     let mut s = r;
     let mut n = 0;
     while s.core.age < to {
-        n += is_saved(save(s, bytes));
-        let age = s.core.age + 1;
-        s.core.age = age;
+        if by_bytes {
+            n += is_saved(save_by_bytes(s, bytes));
+            let age = s.core.age + 1;
+            s.core.age = age;
+        } else {
+            n += is_saved(save(s, bytes));
+            let age = s.core.age + 1;
+            s.core.age = age;
+        }
     }
     n
 }

@@ -65,18 +65,16 @@ module _ {N : ℕ} {ws us out : List ℕ} {i n acc have : ℕ} (l : Loop N ws us
   pub pull-lt : (w v : ℕ) → have + w ≤ 64 → v < 2 ^ w → acc * 2 ^ w + v < 2 ^ 64
   pull-lt w v h k = lt-of-lt-of-le (rw (pow-add 2 have w) (digits-lt held-lt k)) (pow-mono h)
 
-  -- Width i goes in.
-  pub pulled : (w v acc′ : ℕ) → w ≡ getD ws i 0 → v ≡ getD (unpacked ws N) i 0 → acc′ ≡ acc * 2 ^ w + v → i < length ws → have + w < 64
-      → Loop N ws us out (i + 1) n acc′ (have + w)
-  pulled w v acc′ hw hv ha inside fits =
+  -- m widths go in, of w bits together.
+  pub pulled-all : (m w v acc′ : ℕ) → total (drop i ws) ≡ w + total (drop (i + m) ws) → v ≡ bits N (total (drop (i + m) ws)) w → acc′ ≡ acc * 2 ^ w + v
+      → i + m ≤ length ws → have + w < 64 → Loop N ws us out (i + m) n acc′ (have + w)
+  pulled-all m w v acc′ next field ha inside fits =
       let s = l .state in
-      let rest = total (drop (suc i) ws) in
-      let next = total-drop ws i inside in
-      let above : total (drop i ws) ≡ rest + w = next ∙ ap (λ (x : ℕ). x + rest) (sym hw) ∙ add-comm w rest in
-      let field : v ≡ bits N rest w = hv ∙ unpacked-at ws i N ∙ ap (bits N rest) (sym hw) in
+      let rest = total (drop (i + m) ws) in
+      let above : total (drop i ws) ≡ rest + w = next ∙ add-comm w rest in
       let high : acc ≡ bits N (rest + w) have = s .held ∙ ap (λ (x : ℕ). bits N x have) above in
-      let m = s .meet in
-      rw (add-one i) (record {
+      let meet = s .meet in
+      record {
         state = record {
           went-in = inside;
           came-out = s .came-out;
@@ -86,7 +84,13 @@ module _ {N : ℕ} {ws us out : List ℕ} {i n acc have : ℕ} (l : Loop N ws us
         small = fits;
         room = l .room;
         done = l .done;
-      })
+      }
+
+  -- Width i goes in.
+  pub pulled : (w v acc′ : ℕ) → w ≡ getD ws i 0 → v ≡ getD (unpacked ws N) i 0 → acc′ ≡ acc * 2 ^ w + v → i < length ws → have + w < 64
+      → Loop N ws us out (i + 1) n acc′ (have + w)
+  pulled w v acc′ hw hv ha inside fits =
+      pulled-all 1 w v acc′ (rw (add-one i, hw) (total-drop ws i inside)) (rw (add-one i, hw) (hv ∙ unpacked-at ws i N)) ha (omega arith) fits
 
   module _ (u : ℕ) (hu : u ≡ getD us n 0) (inside : n < length us) (enough : u ≤ have) where
     -- What comes out for width n is its value.

@@ -1,5 +1,6 @@
 -- Values of given widths as bits of one number, and as bytes.
 pub mod Bits
 pub mod Packed
+pub mod Words
 pub mod Needs
 pub mod Examples

@@ -59,10 +59,10 @@ field-bits-at n = go (ltb n 23) refl
 -- ---- the three parts of the fields
 
 -- The edition and the scalars: their widths, their fields.
-abbrev scalarWidths : List ℕ
+abbrev pub scalarWidths : List ℕ
 scalarWidths = 8 ∷ 3 ∷ 1 ∷ 12 ∷ 40 ∷ 11 ∷ []
 
-abbrev scalarsOf : Core → List ℕ
+abbrev pub scalarsOf : Core → List ℕ
 scalarsOf c = edition ∷ c .status ∷ c .handler ∷ c .pc ∷ c .age ∷ c .left ∷ []
 
 -- Sound scalars fit.
@@ -77,6 +77,11 @@ unfolding widths fieldsOf
 fields-fit r thirteen =
     fit-parts scalarWidths (replicate 13 32 ++ map fieldBits ioNumbers) (scalarsOf (r .core)) (r .regs ++ r .io) refl
     ∙ ap (λ (t : Bool). fit scalarWidths (scalarsOf (r .core)) && t) (fit-parts (replicate 13 32) (map fieldBits ioNumbers) (r .regs) (r .io) (sym thirteen))
+
+-- Registers of 32 bits fit: the fields do where the scalars and the I/O registers do.
+pub others-fit : (r : Record) → length (r .regs) ≡ 13 → ((k : ℕ) → getD (r .regs) k 0 < 2 ^ 32)
+    → fit widths (fieldsOf r) ≡ (fit scalarWidths (scalarsOf (r .core)) && fit (map fieldBits ioNumbers) (r .io))
+others-fit r thirteen small = fields-fit r thirteen ∙ rw (fit-repeated 13 32 (r .regs) thirteen small)
 
 -- ---- the disk
 

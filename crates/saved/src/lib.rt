@@ -13,6 +13,7 @@ mod sound;
 pub use fresh::fresh_record;
 pub use loading::load;
 pub use saving::save;
+pub use sound::is_possible;
 pub use sound::is_sound;
 
 // What saving answers.

@@ -3,8 +3,7 @@ use crate::Saved;
 use crate::fields::fields;
 use crate::layout::BYTES;
 use crate::layout::WIDTHS;
-use crate::sound::is_possible;
-use bitpack::all_fit;
+use crate::sound::is_sound_with;
 use bitpack::pack;
 use machine::Record;
 ghost use mathlib.Core.Path.{_≡_};
@@ -18,14 +17,10 @@ pub fn save(r: Record, bytes: &mut [u8]) -> Saved
     if bytes.len() != BYTES {
         return Saved::WrongLength;
     }
-    let widths = WIDTHS;
     let f = fields(r);
-    if !all_fit(&widths, &f) {
+    if !is_sound_with(r, f) {
         return Saved::Unsound;
     }
-    if !is_possible(r) {
-        return Saved::Unsound;
-    }
-    pack(&widths, &f, bytes);
+    pack(&WIDTHS, &f, bytes);
     Saved::Done
 }

@@ -24,7 +24,19 @@ pub fn is_sound(r: Record) -> bool
     ensures { λ b. ⌜ b ≡ isSound r ⌝ }
 {
     let f = fields(r);
-    if !all_fit(&WIDTHS, &f) {
+    is_sound_with(r, f)
+}
+
+// Whether a record with these fields is sound. R3 to R15 fit their widths: they are numbers of 32 bits as they are.
+pub fn is_sound_with(r: Record, f: [u64; 42]) -> bool
+    requires { ⌜ f ≡ fieldsOf r ⌝ }
+    ensures { λ b. ⌜ b ≡ isSound r ⌝ }
+{
+    let widths = WIDTHS;
+    if !all_fit(&widths[..6], &f[..6]) {
+        return false;
+    }
+    if !all_fit(&widths[19..], &f[19..]) {
         return false;
     }
     is_possible(r)

@@ -1,17 +1,14 @@
 -- `saved::saving::save` meets its contract.
-use Prim.Native.Nat.{ℕ}
-use mathlib.Core.Path.{_≡_, _∙_, sym, ap}
+use mathlib.Core.Path.{_≡_, _∙_, sym}
 use mathlib.Core.Bool.{true}
-use mathlib.Core.List.{List}
 use lib.Dec.{eqb}
 use lib.ListN.{length}
 use borrow.Author.Tests.{not-true, not-false, eq-eqb, ne-eqb}
 use borrow.Author.Needs.{needs}
 use Rattle.isa.specs.Registers.{ioBits}
-use Rattle.bitpack.specs.Packed.{fit}
-use Rattle.saved.specs.Layout.{widths, fieldsOf, savedBytes}
+use Rattle.saved.specs.Layout.{widths, savedBytes}
 use Rattle.saved.specs.Sound.{isSound}
-use Rattle.saved.proofs.SoundTest.{unfit-unsound, packs}
+use Rattle.saved.proofs.SoundTest.{packs}
 use Rattle.saved.proofs.AnswerLaws.{save-wrong-length, save-unsound, save-done}
 use Rattle.saved.proofs.saving.save.Statement.{statement}
 use Rattle.saved.proofs.saving.save.Tie as tie
@@ -20,12 +17,8 @@ use Rattle.saved.proofs.saving.save.Tie as tie
 length-is : (c : tie.Else1) → eqb (length (c .before .before .args .bytes .now)) 91 ≡ true
 length-is c = eq-eqb _ 91 (c .if1 .left)
 
-fit-is : (c : tie.After-all-fit) → fit widths (fieldsOf (c .before .before .before .before .before .before .args .r)) ≡ c .all-fit .result
-unfolding widths ioBits
-fit-is c = sym (c .all-fit .ensures ∙ ap (λ (f : List ℕ). fit widths f) (c .before .before .before .fields .ensures))
-
-sound-is : (c : tie.Else3) → isSound (c .before .before .before .before .before .before .before .before .before .args .r) ≡ true
-sound-is c = sym (c .before .is-possible .ensures) ∙ not-false (c .before .is-possible .result) (c .if3 .left)
+sound-is : (c : tie.Else2) → isSound (c .before .before .before .before .before .args .r) ≡ true
+sound-is c = sym (c .before .is-sound-with .ensures) ∙ not-false (c .before .is-sound-with .result) (c .if2 .left)
 
 returns : tie.Need-returns
 returns c = let a = c .before .before .args in save-wrong-length (a .r) (a .bytes .now) (ne-eqb (length (a .bytes .now)) 91 (c .if1 .taken))
@@ -33,29 +26,14 @@ returns c = let a = c .before .before .args in save-wrong-length (a .r) (a .byte
 fields-requires : tie.Need-fields-requires
 fields-requires c κs = search needs
 
-slice-aggregate-all-fit : tie.Need-slice-aggregate-all-fit
-slice-aggregate-all-fit c = search needs
-
-slice-aggregate-all-fit-2 : tie.Need-slice-aggregate-all-fit-2
-slice-aggregate-all-fit-2 c = search needs
-
-all-fit-requires : tie.Need-all-fit-requires
-all-fit-requires c κs = search needs
+is-sound-with-requires : tie.Need-is-sound-with-requires
+is-sound-with-requires c κs = search needs
 
 returns-2 : tie.Need-returns-2
 returns-2 c =
-    let a = c .before .before .before .before .before .before .before .args in
-    let no = fit-is (c .before) ∙ not-true (c .before .all-fit .result) (c .if2 .taken) in
-    save-unsound (a .r) (a .bytes .now) (length-is (c .before .before .before .before .before)) (unfit-unsound (a .r) no)
-
-is-possible-requires : tie.Need-is-possible-requires
-is-possible-requires c κs = fit-is (c .before) ∙ not-false (c .before .all-fit .result) (c .if2 .left)
-
-returns-3 : tie.Need-returns-3
-returns-3 c =
-    let a = c .before .before .before .before .before .before .before .before .before .args in
-    let no = sym (c .before .is-possible .ensures) ∙ not-true (c .before .is-possible .result) (c .if3 .taken) in
-    save-unsound (a .r) (a .bytes .now) (length-is (c .before .before .before .before .before .before .before)) no
+    let a = c .before .before .before .before .before .args in
+    let no = sym (c .before .is-sound-with .ensures) ∙ not-true (c .before .is-sound-with .result) (c .if2 .taken) in
+    save-unsound (a .r) (a .bytes .now) (length-is (c .before .before .before)) no
 
 slice-aggregate-pack : tie.Need-slice-aggregate-pack
 slice-aggregate-pack c = search needs
@@ -65,18 +43,21 @@ slice-aggregate-pack-2 c = search needs
 
 pack-requires : tie.Need-pack-requires
 unfolding widths ioBits
-pack-requires c κs = rw (c .before .before .before .before .before .before .before .before .before .fields .ensures) (packs (c .before .before .before .before .before .before .before .before .before .before .before .before .args .r) (sound-is (c .before .before .before)) _ (c .before .before .before .before .before .before .before .before .before .before .if1 .left))
+pack-requires c κs =
+    let s = c .before .before .before in
+    let e = s .before .before .before in
+    rw (s .before .before .fields .ensures) (packs (e .before .before .args .r) (sound-is s) _ (e .if1 .left))
 
 same-length : tie.Need-same-length
 same-length c = search needs
 
-returns-4 : tie.Need-returns-4
+returns-3 : tie.Need-returns-3
 unfolding savedBytes widths ioBits
-returns-4 c =
-    let a = c .before .before .before .before .before .before .before .before .before .before .before .before .before .before .before .args in
-    let e = c .before .before .before .before .before .before .before .before .before .before .before .before .before in
-    let size = e .if1 .left in
-    save-done (a .r) (a .bytes .now) (length-is e) (sound-is (c .before .before .before .before .before .before)) _ (c .before .before .pack .ensures ∙ rw (size, c .before .before .before .before .before .before .before .before .before .before .before .before .fields .ensures))
+returns-3 c =
+    let s = c .before .before .before .before .before .before in
+    let e = s .before .before .before in
+    let a = e .before .before .args in
+    save-done (a .r) (a .bytes .now) (length-is e) (sound-is s) _ (c .before .before .pack .ensures ∙ rw (e .if1 .left, s .before .before .fields .ensures))
 
 pub save-spec : {M : Type 1} → statement M
 save-spec =
@@ -84,14 +65,10 @@ save-spec =
     (tie.spec
     returns
     fields-requires
-    slice-aggregate-all-fit
-    slice-aggregate-all-fit-2
-    all-fit-requires
+    is-sound-with-requires
     returns-2
-    is-possible-requires
-    returns-3
     slice-aggregate-pack
     slice-aggregate-pack-2
     pack-requires
     same-length
-    returns-4)
+    returns-3)

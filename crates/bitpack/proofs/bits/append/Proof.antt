@@ -1,8 +1,8 @@
--- `bitpack::append` meets its contract.
+-- `bitpack::bits::append` meets its contract.
 use borrow.Author.Needs.{needs}
 use Rattle.bitpack.proofs.BitLaws.{shifted-in}
-use Rattle.bitpack.proofs.append.Statement.{statement}
-use Rattle.bitpack.proofs.append.Tie as tie
+use Rattle.bitpack.proofs.bits.append.Statement.{statement}
+use Rattle.bitpack.proofs.bits.append.Tie as tie
 
 shl-result : tie.Need-shl-result
 shl-result c = search needs

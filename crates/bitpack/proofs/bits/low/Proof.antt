@@ -1,9 +1,9 @@
--- `bitpack::low` meets its contract.
+-- `bitpack::bits::low` meets its contract.
 use lib.Pow.{pow-pos}
 use borrow.Author.Needs.{needs}
 use Rattle.bitpack.proofs.BitLaws.{one-shifted, masked}
-use Rattle.bitpack.proofs.low.Statement.{statement}
-use Rattle.bitpack.proofs.low.Tie as tie
+use Rattle.bitpack.proofs.bits.low.Statement.{statement}
+use Rattle.bitpack.proofs.bits.low.Tie as tie
 
 shl-result : tie.Need-shl-result
 shl-result c = search needs

@@ -1,4 +1,4 @@
--- `bitpack::all_fit` meets its contract.
+-- `bench_saved::by_bytes::all_fit_one_by_one` meets its contract.
 use Prim.Native.Nat.{_+_, _-_, _<_}
 use mathlib.Core.Path.{_≡_, refl, sym, _∙_}
 use mathlib.Core.Bool.{_&&_}
@@ -6,10 +6,10 @@ use native.Mathlib.Omega.{arith}
 use lib.ListN.{length, drop}
 use borrow.Author.Needs.{needs}
 use borrow.Author.Tests.{not-true, not-false}
 use Rattle.bitpack.specs.Packed.{fit}
 use Rattle.bitpack.proofs.PackLaws.{fit-other, fit-turn, fit-end}
-use Rattle.bitpack.proofs.all_fit.Statement.{statement}
-use Rattle.bitpack.proofs.all_fit.Tie as tie
+use Rattle.bench_saved.proofs.by_bytes.all_fit_one_by_one.Statement.{statement}
+use Rattle.bench_saved.proofs.by_bytes.all_fit_one_by_one.Tie as tie
 
 abbrev Inv-loop : tie.InvT-loop
 Inv-loop widths values i₀ i = fit widths values ≡ fit (drop i widths) (drop i values)
@@ -70,8 +70,8 @@ returns-3 c =
     let same = c .before .before .if1 .left in
     sym (c .before .loop .inv ∙ fit-end (s .widths .now) (s .values .now) (c .before .loop .i) past (omega arith))
 
-pub all-fit-spec : {M : Type 1} → statement M
-all-fit-spec =
+pub all-fit-one-by-one-spec : {M : Type 1} → statement M
+all-fit-one-by-one-spec =
     tie.close
     (tie.spec
     Inv-loop

@@ -1,16 +1,16 @@
--- `bitpack::pack` meets its contract.
+-- `bench_saved::by_bytes::pack_bytes` meets its contract.
 use Prim.Native.Nat.{ℕ, _+_, _-_, _%_, _^_, _≤_, _<_}
 use mathlib.Core.Path.{_≡_, sym, ap, _∙_}
 use native.Mathlib.Omega.{arith}
 use lib.ListN.{length, getD}
 use borrow.Author.Needs.{needs}
 use Rattle.bitpack.specs.Packed.{packed, bytesOf}
 use Rattle.bitpack.proofs.BitLaws.{shifted-low, top-of, rest-of}
 use Rattle.bitpack.proofs.PackLaws.{fit-length, fit-at, narrow-at, packed-at}
 use Rattle.bitpack.proofs.ByteLaws.{eights, length-eights, eights-at, total-eights}
 use Rattle.bitpack.proofs.StreamLaws.{Loop, begun, has-more, pulled, emitted, finished}
-use Rattle.bitpack.proofs.pack.Statement.{statement}
-use Rattle.bitpack.proofs.pack.Tie as tie
+use Rattle.bench_saved.proofs.by_bytes.pack_bytes.Statement.{statement}
+use Rattle.bench_saved.proofs.by_bytes.pack_bytes.Tie as tie
 
 abbrev Inv-loop : tie.InvT-loop
 Inv-loop widths values out₀ acc₀ have₀ i₀ n₀ out acc have i n = Loop (packed widths values) widths (eights (length out₀)) out i n (acc % 2 ^ have) have
@@ -129,8 +129,8 @@ returns : tie.Need-returns Inv-loop μ-loop
 unfolding bytesOf
 returns c = finished (c .before .loop .inv) (rw (← c .before .loop .inv .room) (c .loop-test .left))
 
-pub pack-spec : {M : Type 1} → statement M
-pack-spec =
+pub pack-bytes-spec : {M : Type 1} → statement M
+pack-bytes-spec =
     tie.close
     (tie.spec
     Inv-loop

@@ -1,0 +1,218 @@
+-- Packing a word at a time. Assumes nothing.
+use Prim.Native.Nat.{ℕ, suc, _+_, _-_, _*_, _/_, _%_, _^_, _≤_, _<_}
+use mathlib.Core.Path.{_≡_, refl, sym, ap, ap₂, _∙_}
+use mathlib.Core.Bool.{Bool, true, false}
+use mathlib.Core.List.{List, _++_}
+use native.Mathlib.Nat.{add-comm, zero-add, mod-one}
+use native.Mathlib.Numerals.{add-one}
+use native.Mathlib.Omega.{arith}
+use lib.Dec.{leb}
+use lib.ListN.{length, getD, drop, length-drop, drop-of-length-le}
+use lib.Pow.{shr-shr}
+use lib.Seq.{length-take-le}
+use borrow.Author.Tests.{leb-true, leb-false}
+use borrow.Rule.Slice.PartMut.{midOf, putMid}
+use Rattle.text.specs.Place.{put}
+use Rattle.text.proofs.PutLaws.{put-nil, length-put, put-all, put-part}
+use Rattle.text.proofs.PieceLaws.{more}
+use Rattle.bitpack.specs.Bits.{bits}
+use Rattle.bitpack.specs.Packed.{total, packed, bytesOf}
+use Rattle.bitpack.specs.Words.{wordOf}
+use Rattle.bitpack.specs.Needs.{Packs, Completes}
+use Rattle.bitpack.proofs.BitLaws.{bits-lt, bits-join, bits-low, bits-lowest, shifted-low}
+use Rattle.bitpack.proofs.PackLaws.{narrow-at, total-drop, unpacked-at, packed-at, fit-at}
+use Rattle.bitpack.proofs.ByteLaws.{length-bytes}
+use Rattle.bitpack.proofs.WordLaws.{bytes-append, bytes-low}
+
+-- i values went in and k words came out; `held` ends with the `left` bits between, fewer than a word has.
+pub record Packing (ws vs out₀ out : List ℕ) (i k held left : ℕ) : Type 0 where
+  pub went-in : i ≤ length ws
+  pub few : left < 32
+  pub meet : 32 * k + left + total (drop i ws) ≡ total ws
+  pub holds : held % 2 ^ left ≡ bits (packed ws vs) (total (drop i ws)) left
+  pub done : out ≡ put out₀ 0 (bytesOf (4 * k) (packed ws vs / 2 ^ (left + total (drop i ws))))
+
+-- Nothing yet.
+pub begun : (ws vs out : List ℕ) → Packing ws vs out out 0 0 0 0
+unfolding bytesOf bits
+begun ws vs out = record {
+  went-in = omega arith;
+  few = omega arith;
+  meet = omega arith;
+  holds = sym (mod-one (packed ws vs / 2 ^ total ws));
+  done = sym (put-nil out 0);
+}
+
+-- The bytes of a number's first words, and the four of the word after them.
+word-more : (n rest k : ℕ) (out₀ out out′ : List ℕ) → out ≡ put out₀ 0 (bytesOf (4 * k) (n / 2 ^ (rest + 32)))
+    → out′ ≡ put out (4 * k) (bytesOf 4 (bits n rest 32)) → out′ ≡ put out₀ 0 (bytesOf (4 * (k + 1)) (n / 2 ^ rest))
+unfolding bits
+word-more n rest k out₀ out out′ before here =
+    let first = bytesOf (4 * k) (n / 2 ^ (rest + 32)) in
+    let count : 4 * (k + 1) ≡ 4 * k + 4 = omega arith in
+    let place : 4 * k ≡ 0 + length first = sym (zero-add (length first) ∙ length-bytes (4 * k) (n / 2 ^ (rest + 32))) in
+    let parts : bytesOf (4 * k + 4) (n / 2 ^ rest) ≡ first ++ bytesOf 4 (bits n rest 32) =
+    bytes-append (4 * k) 4 (n / 2 ^ rest)
+    ∙ ap₂ (λ (xs ys : List ℕ). xs ++ ys) (ap (bytesOf (4 * k)) (shr-shr n rest 32)) (bytes-low 4 (n / 2 ^ rest) (bits n rest 32) (sym (bits-low n rest 0 32))) in
+    more out₀ out out′ 0 (4 * k) first (bytesOf 4 (bits n rest 32)) place before here
+    ∙ ap (put out₀ 0) (sym (ap (λ (m : ℕ). bytesOf m (n / 2 ^ rest)) count ∙ parts))
+
+-- The same where that word is word k.
+word-out : (ws vs : List ℕ) (rest k : ℕ) (out₀ out out′ : List ℕ) → rest + 32 * suc k ≡ total ws
+    → out ≡ put out₀ 0 (bytesOf (4 * k) (packed ws vs / 2 ^ (rest + 32))) → out′ ≡ put out (4 * k) (bytesOf 4 (wordOf ws vs k))
+    → out′ ≡ put out₀ 0 (bytesOf (4 * (k + 1)) (packed ws vs / 2 ^ rest))
+unfolding wordOf
+word-out ws vs rest k out₀ out out′ end before here =
+    let lo : total ws - 32 * suc k ≡ rest = omega arith in
+    word-more (packed ws vs) rest k out₀ out out′ before (here ∙ ap (λ (x : ℕ). put out (4 * k) (bytesOf 4 (bits (packed ws vs) x 32))) lo)
+
+module _ {ws vs out₀ out : List ℕ} {i k held left : ℕ} (p : Packs ws vs (length out₀)) (s : Packing ws vs out₀ out i k held left) where
+  -- There are as many places as before.
+  pub room : length out ≡ length out₀
+  room = ap length (s .done) ∙ length-put out₀ 0 _
+
+  module _ (all : length ws ≤ i) where
+    -- All went in: the bits that are held are those of the bytes left over.
+    over : total (drop i ws) ≡ 0
+    over = ap total (drop-of-length-le ws all)
+
+    pub words-within : 4 * k ≤ length out
+    words-within = let m = s .meet in let t = p .whole in let r = room in omega arith
+
+    -- With these bytes the packing is done.
+    pub finished : (bytes : List ℕ) → bytes ≡ bytesOf (length (midOf (4 * k) (length out - 4 * k) out)) held
+        → putMid (4 * k) (length out - 4 * k) out bytes ≡ bytesOf (length out₀) (packed ws vs)
+    finished bytes e′ =
+        let n = packed ws vs in
+        let m = length out - 4 * k in
+        let within = words-within in
+        let part : length (midOf (4 * k) m out) ≡ m = length-take-le m (drop (4 * k) out) (simp length-drop (omega arith)) in
+        let e : bytes ≡ bytesOf m held = e′ ∙ ap (λ (x : ℕ). bytesOf x held) part in
+        let meet = s .meet in
+        let whole = p .whole in
+        let none = over in
+        let same = room in
+        let bits-left : left ≡ 8 * m = omega arith in
+        let size : length bytes ≡ m = ap length e ∙ length-bytes m held in
+        let first = bytesOf (4 * k) (n / 2 ^ (left + total (drop i ws))) in
+        let start : 4 * k ≡ 0 + length first = sym (zero-add (length first) ∙ length-bytes (4 * k) _) in
+        let low : held % 2 ^ (8 * m) ≡ n % 2 ^ (8 * m) = rw (← bits-left) (s .holds ∙ rw none (bits-lowest n left)) in
+        let above : left + total (drop i ws) ≡ 8 * m = omega arith in
+        let parts : first ++ bytes ≡ bytesOf (4 * k + m) n =
+        ap₂ (λ (xs ys : List ℕ). xs ++ ys) (ap (λ (t : ℕ). bytesOf (4 * k) (n / 2 ^ t)) above) (e ∙ bytes-low m held n low) ∙ sym (bytes-append (4 * k) m n) in
+        let count : 4 * k + m - 4 * k ≡ m = omega arith in
+        let all-of : 4 * k + m ≡ length out₀ = omega arith in
+        (rw count at (put-part out bytes (4 * k) m size (omega arith)))
+        ∙ more out₀ out (put out (4 * k) bytes) 0 (4 * k) first bytes start (s .done) refl
+        ∙ ap (put out₀ 0) (parts ∙ ap (λ (x : ℕ). bytesOf x n) all-of)
+        ∙ put-all out₀ (bytesOf (length out₀) n) (length-bytes (length out₀) n)
+
+  module _ (w v : ℕ) (hw : w ≡ getD ws i 0) (hv : v ≡ getD vs i 0) (there : i < length ws) where
+    -- What comes after value i, and before it.
+    rest : ℕ
+    rest = total (drop (suc i) ws)
+
+    above : total (drop i ws) ≡ rest + w
+    unfolding rest
+    above = total-drop ws i there ∙ ap (λ (x : ℕ). x + rest) (sym hw) ∙ add-comm w rest
+
+    value : v ≡ bits (packed ws vs) rest w
+    unfolding rest
+    value = hv ∙ packed-at ws vs i (p .fitting) ∙ unpacked-at ws i (packed ws vs) ∙ ap (bits (packed ws vs) rest) (sym hw)
+
+    small : w ≤ 40
+    small = rw hw (narrow-at 40 ws i (p .small))
+
+    -- Value i is held where it completes no word.
+    pub held-on : (held′ : ℕ) → left + w < 32 → held′ ≡ (held * 2 ^ w + v) % 2 ^ 64 → Packing ws vs out₀ out (i + 1) k held′ (left + w)
+    unfolding rest
+    held-on held′ few he =
+        let m = s .meet in
+        let a = above in
+        let below : v < 2 ^ w = rw value (bits-lt (packed ws vs) rest w) in
+        rw (add-one i) (record {
+          went-in = there;
+          few = few;
+          meet = omega arith;
+          holds =
+              ap (λ (x : ℕ). x % 2 ^ (left + w)) he
+              ∙ shifted-low held left w v (omega arith) below
+              ∙ ap₂ (λ (x y : ℕ). x * 2 ^ w + y) (s .holds ∙ ap (λ (t : ℕ). bits (packed ws vs) t left) above) value
+              ∙ bits-join (packed ws vs) rest left w;
+          done = s .done ∙ ap (λ (t : ℕ). put out₀ 0 (bytesOf (4 * k) (packed ws vs / 2 ^ t))) (let e : left + total (drop i ws) ≡ left + w + rest = omega arith in e);
+        })
+
+    -- Its last bits are held where the word before them came out.
+    last-held : (last : ℕ) → last ≤ w → v % 2 ^ last ≡ bits (packed ws vs) rest last
+    last-held last within =
+        let cut : (w - last) + last ≡ w = omega arith in
+        ap (λ (x : ℕ). x % 2 ^ last) (value ∙ ap (bits (packed ws vs) rest) (sym cut)) ∙ bits-low (packed ws vs) rest (w - last) last
+
+    -- The word's place in the bits, and among the bytes.
+    pub place : (j last : ℕ) → last + 32 * suc j ≡ left + w + 32 * k → 4 * j + 4 ≤ length out₀
+    unfolding rest
+    place j last e = let m = s .meet in let a = above in let t = p .whole in omega arith
+
+    module _ (j last : ℕ) (e : last + 32 * suc j ≡ left + w + 32 * k) (next : k ≤ j) where
+      -- Value i completes word j, and `last` of its bits are left.
+      pub completes : Completes ws vs i held last j
+      unfolding rest bits
+      completes =
+          let m = s .meet in
+          let a = above in
+          let f = s .few in
+          record {
+            fitting = p .fitting;
+            small = p .small;
+            there = there;
+            within = rw (← hw) (omega arith);
+            ends = omega arith;
+            begins = rw (← hw) (go (leb j k) refl);
+          }
+        where
+          go : (t : Bool) → leb j k ≡ t → held % 2 ^ (32 - (w - last)) ≡ bits (packed ws vs) (total (drop i ws)) (32 - (w - last))
+          go true q =
+              let same = leb-true j k q in
+              let f = s .few in
+              let count : 32 - (w - last) ≡ left = omega arith in
+              rw count (s .holds)
+          go false q =
+              let later = leb-false j k q in
+              let f = s .few in
+              let count : 32 - (w - last) ≡ 0 = omega arith in
+              rw count (mod-one held ∙ sym (mod-one (packed ws vs / 2 ^ total (drop i ws))))
+
+    -- After the words that value i completes its last bits are held.
+    came-out : (words last : ℕ) (out′ : List ℕ) → last + 32 * words ≡ left + w → last < 32 → last ≤ w
+        → out′ ≡ put out₀ 0 (bytesOf (4 * (k + words)) (packed ws vs / 2 ^ (last + rest))) → Packing ws vs out₀ out′ (i + 1) (k + words) v last
+    unfolding rest
+    came-out words last out′ e few within done =
+        let m = s .meet in
+        let a = above in
+        rw (add-one i) (record { went-in = there; few = few; meet = omega arith; holds = last-held last within; done = done })
+
+    -- One word came out.
+    pub one-word : (last : ℕ) (out′ : List ℕ) → last + 32 ≡ left + w → last < 32 → out′ ≡ put out (4 * k) (bytesOf 4 (wordOf ws vs k))
+        → Packing ws vs out₀ out′ (i + 1) (k + 1) v last
+    unfolding rest
+    one-word last out′ e few here =
+        let m = s .meet in
+        let a = above in
+        let f = s .few in
+        let same : left + total (drop i ws) ≡ last + rest + 32 = omega arith in
+        came-out 1 last out′ (omega arith) few (omega arith) (word-out ws vs (last + rest) k out₀ out out′ (omega arith) (s .done ∙ ap (λ (t : ℕ). put out₀ 0 (bytesOf (4 * k) (packed ws vs / 2 ^ t))) same) here)
+
+    -- Two words came out.
+    pub two-words : (last : ℕ) (out′ out″ : List ℕ) → last + 64 ≡ left + w → out′ ≡ put out (4 * k) (bytesOf 4 (wordOf ws vs k))
+        → out″ ≡ put out′ (4 * (k + 1)) (bytesOf 4 (wordOf ws vs (k + 1))) → Packing ws vs out₀ out″ (i + 1) (k + 2) v last
+    unfolding rest
+    two-words last out′ out″ e first second =
+        let m = s .meet in
+        let a = above in
+        let f = s .few in
+        let b = small in
+        let same : left + total (drop i ws) ≡ last + rest + 32 + 32 = omega arith in
+        let here = word-out ws vs (last + rest + 32) k out₀ out out′ (omega arith) (s .done ∙ ap (λ (t : ℕ). put out₀ 0 (bytesOf (4 * k) (packed ws vs / 2 ^ t))) same) first in
+        let there′ = word-out ws vs (last + rest) (k + 1) out₀ out′ out″ (omega arith) here second in
+        let count : k + 1 + 1 ≡ k + 2 = omega arith in
+        came-out 2 last out″ (omega arith) (omega arith) (omega arith) (rw (← count) there′)

@@ -1,0 +1,82 @@
+-- `bitpack::fitting::all_fit` meets its contract.
+use Prim.Native.Nat.{_+_, _-_, _<_}
+use mathlib.Core.Path.{_≡_, refl, sym, ap, _∙_}
+use mathlib.Core.Bool.{Bool, _&&_, and-assoc, and-true}
+use native.Mathlib.Omega.{arith}
+use lib.ListN.{length, drop}
+use borrow.Author.Needs.{needs}
+use Rattle.bitpack.specs.Packed.{fit}
+use Rattle.bitpack.proofs.PackLaws.{fit-other, fit-turn, fit-end}
+use Rattle.bitpack.proofs.fitting.all_fit.Statement.{statement}
+use Rattle.bitpack.proofs.fitting.all_fit.Tie as tie
+
+abbrev Inv-loop : tie.InvT-loop
+Inv-loop widths values all₀ i₀ all i = fit widths values ≡ (all && fit (drop i widths) (drop i values))
+
+abbrev μ-loop : tie.MeasureT-loop
+μ-loop widths values all₀ i₀ all i = length widths - i
+
+-- The width at i has a value.
+value-there : (c : tie.In-loop Inv-loop μ-loop) → c .before .loop .i < length (c .before .before .before .before .before .args .values .now)
+value-there c = let h = c .loop-test .taken in let e = c .before .before .if1 .left in omega arith
+
+returns : tie.Need-returns Inv-loop μ-loop
+returns c = sym (fit-other (c .before .before .before .args .widths .now) (c .before .before .before .args .values .now) (c .if1 .taken))
+
+loop-holds : tie.Need-loop-holds Inv-loop μ-loop
+loop-holds c = refl
+
+shared-slice-read-wide : tie.Need-shared-slice-read-wide Inv-loop μ-loop
+shared-slice-read-wide c = c .before .loop-test .taken
+
+wide-requires : tie.Need-wide-requires Inv-loop μ-loop
+wide-requires c κs = search needs
+
+mul-fits-width : tie.Need-mul-fits-width Inv-loop μ-loop
+mul-fits-width c = let h = value-there (c .before .before) in search needs
+
+shared-slice-read-fits-width : tie.Need-shared-slice-read-fits-width Inv-loop μ-loop
+shared-slice-read-fits-width c = value-there (c .before .before .before)
+
+fits-width-requires : tie.Need-fits-width-requires Inv-loop μ-loop
+fits-width-requires c κs = search needs
+
+add-i : tie.Need-add-i Inv-loop μ-loop
+add-i c = let h = value-there (c .before .before .before .before) in search needs
+
+loop-less : tie.Need-loop-less Inv-loop μ-loop
+loop-less c = let h = c .before .before .before .before .loop-test .taken in omega arith
+
+loop-again : tie.Need-loop-again Inv-loop μ-loop
+loop-again c =
+    let s = c .before .before .before .before .before .before .before .before .before .args in
+    let l = c .before .before .before .before .before .loop in
+    let here = c .before .before .before .before .loop-test .taken in
+    l .inv
+    ∙ ap (λ (t : Bool). l .all && t) (fit-turn (s .widths .now) (s .values .now) (l .i) _ _ here (value-there (c .before .before .before .before)) (c .before .before .wide .ensures) (c .fits-width .ensures))
+    ∙ sym (and-assoc (l .all) (c .fits-width .result) _)
+
+returns-2 : tie.Need-returns-2 Inv-loop μ-loop
+returns-2 c =
+    let s = c .before .before .before .before .before .args in
+    let past = c .loop-test .left in
+    let same = c .before .before .if1 .left in
+    sym (c .before .loop .inv ∙ ap (λ (t : Bool). c .before .loop .all && t) (fit-end (s .widths .now) (s .values .now) (c .before .loop .i) past (omega arith)) ∙ and-true (c .before .loop .all))
+
+pub all-fit-spec : {M : Type 1} → statement M
+all-fit-spec =
+    tie.close
+    (tie.spec
+    Inv-loop
+    μ-loop
+    returns
+    loop-holds
+    shared-slice-read-wide
+    wide-requires
+    mul-fits-width
+    shared-slice-read-fits-width
+    fits-width-requires
+    add-i
+    loop-less
+    loop-again
+    returns-2)

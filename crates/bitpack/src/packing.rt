@@ -1,0 +1,57 @@
+// Values packed into bytes, a word at a time.
+use crate::bits::append;
+use crate::bits::low_byte;
+use crate::bits::wide;
+use crate::word::put_word;
+ghost use mathlib.Core.Path.{_≡_};
+ghost use lib.ListN.{length};
+ghost use Rattle.bitpack.specs.Packed.{packed, bytesOf};
+ghost use Rattle.bitpack.specs.Needs.{Packs};
+
+// Packs values into bytes, which they fill: whole words, then the bytes left over. `held` ends with the bits that went in and did not come out, `left`
+// of them. A value is cut where a word ends, so no more than 64 bits are needed at once; a wide one may complete two words.
+pub fn pack(widths: &[u8], values: &[u64], out: &mut [u8])
+    requires { ⌜ Packs (now widths) (now values) (length (now out)) ⌝ }
+    ensures { λ _. ⌜ now (out .exit) ≡ bytesOf (length (now (out .entry))) (packed (now (widths .entry)) (now (values .entry))) ⌝ }
+{
+    let mut held: u64 = 0;
+    let mut left: u64 = 0;
+    let mut i: usize = 0;
+    let mut k: usize = 0;
+    while i < widths.len() {
+        let w = wide(widths[i]);
+        let v = values[i];
+        left += w;
+        if left < 32 {
+            held = append(held, w, v);
+            i += 1;
+        } else if left < 64 {
+            left -= 32;
+            put_word(widths, values, i, held, left, k, out);
+            k += 1;
+            held = v;
+            i += 1;
+        } else {
+            left -= 64;
+            put_word(widths, values, i, held, left + 32, k, out);
+            put_word(widths, values, i, held, left, k + 1, out);
+            k += 2;
+            held = v;
+            i += 1;
+        }
+    }
+    put_bytes(held, &mut out[4 * k..]);
+}
+
+// Puts the low bytes of a number, as many as there is room for.
+fn put_bytes(x: u64, out: &mut [u8])
+    ensures { λ _. ⌜ now (out .exit) ≡ bytesOf (length (now (out .entry))) x ⌝ }
+{
+    let mut rest = x;
+    let mut n = out.len();
+    while 0 < n {
+        n -= 1;
+        out[n] = low_byte(rest);
+        rest = rest >> 8;
+    }
+}

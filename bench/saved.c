@@ -1,10 +1,11 @@
-// The proved saving and reading of a record beside a plain packer in C, from document 01 alone, and beside the save before.
+// The proved saving and reading of a record beside a plain packer in C, from document 01 alone, and the save beside the one
+// before change (iii).
 //
-// "Before" is the proved save as it was before it built words of 32 bits: it builds the bytes one at a time and tests the
-// widths value by value. The library no longer has it; crate bench_saved keeps it, in by_bytes.rt, for this file.
+// "Before" is the proved save as it was before it built words of 32 bits: it builds the bytes one at a time, and its test of
+// widths asks all 42 fields. The library no longer has it; crate bench_saved keeps it, in by_bytes.rt, for this file.
 //
-// All save random records, sound and unsound, and read what was saved and random bytes; the bytes and the answers must be
-// equal. Then each is timed, with its test of soundness. bench/saved builds and runs this file:
+// All three save random records, sound and unsound; the library and C read what was saved, and random bytes. Bytes and
+// answers must be equal. Then each is timed, with its test of soundness. bench/saved builds and runs this file:
 //
 //     bench/saved            runs of 100,000 saves and of as many readings
 //     bench/saved 5000       runs of so many
@@ -20,7 +21,7 @@
 enum { BYTES = 91, ROOM = BYTES + 1, REGISTERS = 13, IO = 23, RUNS = 200, RECORDS = 400000 };
 
 // The proved ones. Saves a record at its age and at each after it below `to`, and returns how many saves were accepted.
-// by_bytes chooses the save before.
+// by_bytes chooses the save before change (iii).
 uint64_t simp_bench_saves(uint32_t status, uint32_t handler, uint32_t pc, uint64_t age, uint32_t left, const uint32_t *regs,
                           const uint32_t *io, bool by_bytes, uint64_t to, uint8_t *bytes, size_t bytes_length);
 // Reads bytes n times, saves the record that was read last to `out`, and returns how many readings were accepted.
@@ -114,7 +115,7 @@ static inline bool c_load(const uint8_t *bytes, size_t length, struct record *r)
     return true;
 }
 
-// The same as the proved functions.
+// As the proved functions do: n saves, each of a record a cycle older, and n readings.
 __attribute__((noinline)) uint64_t c_saves(const struct record *first, uint64_t n, uint8_t *bytes, size_t length)
 {
     struct record r = *first;
@@ -208,7 +209,7 @@ static uint64_t before_saves(const struct record *r, uint64_t n, uint8_t *bytes,
 
 static bool differ(const char *what, uint64_t number)
 {
-    printf("%s of random record %llu: bytes or answers DIFFER\n", what, (unsigned long long)number);
+    printf("%s, random record %llu: bytes or answers DIFFER\n", what, (unsigned long long)number);
     return false;
 }
 
@@ -239,7 +240,9 @@ static bool compare_saving(uint64_t number, size_t length, uint8_t *bytes, uint6
     memcpy(bytes, from, ROOM);
     uint64_t done = c_saves(&r, 1, bytes, length);
     *saved += done;
-    return saves_alike(proved_saves, &r, length, from, done, bytes) && saves_alike(before_saves, &r, length, from, done, bytes);
+    if (!saves_alike(proved_saves, &r, length, from, done, bytes))
+        return differ("saving, proved and C", number);
+    return saves_alike(before_saves, &r, length, from, done, bytes) || differ("saving, before and C", number);
 }
 
 // Reads bytes: of four, two as they were saved, one with a bit changed, one random behind the edition.
@@ -256,7 +259,7 @@ static bool compare_reading(uint64_t number, size_t length, uint8_t *bytes, uint
     }
     uint64_t done = c_loads(bytes, length, 1, b, BYTES);
     *read += done;
-    return simp_bench_loads(bytes, length, 1, a, BYTES) == done && !memcmp(a, b, ROOM);
+    return (simp_bench_loads(bytes, length, 1, a, BYTES) == done && !memcmp(a, b, ROOM)) || differ("reading, proved and C", number);
 }
 
 static bool compare_random(void)
@@ -266,10 +269,8 @@ static bool compare_random(void)
         // Some lengths are one too few or one too many.
         size_t length = random_below(50) ? BYTES : BYTES - 1 + random_below(3);
         uint8_t bytes[ROOM];
-        if (!compare_saving(k, length, bytes, &saved))
-            return differ("saving", k);
-        if (!compare_reading(k, length, bytes, &read))
-            return differ("reading", k);
+        if (!compare_saving(k, length, bytes, &saved) || !compare_reading(k, length, bytes, &read))
+            return false;
     }
     printf("%d random records, bytes and answers equal: %llu saved, %llu refused\n", RECORDS, (unsigned long long)saved, (unsigned long long)(RECORDS - saved));
     printf("%d times random bytes, bytes and answers equal: %llu read, %llu refused\n", RECORDS, (unsigned long long)read, (unsigned long long)(RECORDS - read));
@@ -307,7 +308,7 @@ static double least(double a, double b)
 static void print_header(uint64_t n)
 {
     printf("%llu turns a run, ns a turn, the best of %d runs\n", (unsigned long long)n, RUNS);
-    printf("proved: the library; before: the proved save by bytes, as it was before words\n");
+    printf("proved: the library; before: the save as it was before change (iii)\n");
     printf("goals of a save: proved/before at most 0.50, proved/C at most 0.80\n");
     printf("%-8s %8s %8s %8s %14s %9s  %s\n", "", "proved", "before", "C", "proved/before", "proved/C", "bytes");
 }

@@ -1,2 +1,3 @@
 -- Laws of records saved and read again and again.
 pub mod TurnLaws
+pub mod HeldLaws

@@ -1,9 +1,8 @@
-// The save as it was before words: the packer that builds the bytes one at a time, and the test of widths that goes value by value. Kept for bench/
-// only.
+// The save as it was before change (iii): the packer that builds the bytes one at a time, and the test of widths that asks all and ends at the first
+// that does not fit. Kept for bench/ only.
 use bitpack::bits::append;
 use bitpack::bits::low_byte;
 use bitpack::bits::wide;
-use bitpack::fits_width;
 use machine::Record;
 use saved::Saved;
 use saved::fields::fields;
@@ -11,6 +10,8 @@ use saved::is_possible;
 use saved::layout::BYTES;
 use saved::layout::WIDTHS;
 ghost use mathlib.Core.Path.{_≡_};
+ghost use Prim.Native.Nat.{_^_};
+ghost use lib.Dec.{ltb};
 ghost use lib.ListN.{length};
 ghost use Rattle.bitpack.specs.Packed.{fit, packed, bytesOf};
 ghost use Rattle.bitpack.specs.Needs.{Packs};
@@ -26,7 +27,7 @@ pub fn save_by_bytes(r: Record, bytes: &mut [u8]) -> Saved
     }
     let widths = WIDTHS;
     let f = fields(r);
-    if !all_fit_one_by_one(&widths, &f) {
+    if !all_fit_ending_early(&widths, &f) {
         return Saved::Unsound;
     }
     if !is_possible(r) {
@@ -36,8 +37,15 @@ pub fn save_by_bytes(r: Record, bytes: &mut [u8]) -> Saved
     Saved::Done
 }
 
+// Whether a value fits a width.
+fn fits_width(w: u64, v: u64) -> bool
+    ensures { λ r. ⌜ r ≡ ltb v (2 ^ w) ⌝ }
+{
+    if w < 64 { (v >> w) == 0 } else { true }
+}
+
 // Whether there are as many values as widths and each fits its width.
-fn all_fit_one_by_one(widths: &[u8], values: &[u64]) -> bool
+fn all_fit_ending_early(widths: &[u8], values: &[u64]) -> bool
     ensures { λ r. ⌜ r ≡ fit (now (widths .entry)) (now (values .entry)) ⌝ }
 {
     if widths.len() != values.len() {

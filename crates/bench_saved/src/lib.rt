@@ -10,13 +10,13 @@ use saved::save;
 ghost use mathlib.Core.Path.{_≡_};
 ghost use Prim.Native.Nat.{_-_};
 ghost use Rattle.saved.specs.Answers.{savedOutcome, loadedOutcome};
-ghost use Rattle.saved.specs.Calls.{saveOutcome, saveBytes};
+ghost use Rattle.saved.specs.Calls.{saveBytes};
 ghost use Rattle.bench_saved.specs.Turns.{one, given, saves, savesDone, loads, loadsDone};
 
 mod by_bytes;
 
-// Saves a record at its age and at each after it below `to`, into the same bytes; returns how many saves were accepted. `by_bytes` chooses the save
-// as it was before words.
+// Saves a record at its age and at each after it below `to`, into the same bytes; returns how many saves were accepted. `by_bytes` chooses the save as
+// it was before change (iii), whose promise is the same.
 #[no_mangle]
 pub extern "C" fn simp_bench_saves(
     status: u32,

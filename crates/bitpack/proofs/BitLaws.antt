@@ -1,13 +1,13 @@
 -- Laws of a run of bits: what shifts and masks do to it. Assumes nothing.
 use Prim.Native.Nat.{ℕ, _+_, _-_, _*_, _/_, _%_, _^_, _≤_, _<_}
 use mathlib.Core.Path.{_≡_, refl, sym, ap, _∙_}
-use mathlib.Core.Bool.{Bool, true, false}
+use mathlib.Core.Bool.{Bool, true, false, _&&_}
 use native.Mathlib.Nat.{mod-lt, div-one, div-eq-of-lt, le-div-iff-mul-le, add-zero, zero-add, one-mul}
 use native.Mathlib.Omega.{arith}
-use lib.Bits.{bitAnd, bitOr, and-mask, or-shifted}
+use lib.Bits.{bitAnd, bitOr, and-mask, or-shifted, or-add-and, and-le-l, and-le-r}
 use lib.Dec.{ltb, eqb, lit<}
 use lib.Pow.{pow-pos, shl-exact, shr-shr, high, low, mod-pow-add, field, mod-mod-pow}
-use borrow.Author.Tests.{ltb-true, ltb-false, ne-eqb}
+use borrow.Author.Tests.{ltb-true, ltb-false, eqb-true, eqb-false, ne-eqb}
 use Rattle.bitpack.specs.Bits.{bits}
 
 -- A run of len bits is a number of len bits.
@@ -74,15 +74,6 @@ pub shifted-low : (a m k v : ℕ) → m + k ≤ 64 → v < 2 ^ k → (a * 2 ^ k 
 shifted-low a m k v room h =
     (rw (let e : (64 - (m + k)) + (m + k) ≡ 64 = omega arith in e) at (mod-mod-pow (a * 2 ^ k + v) (64 - (m + k)) (m + k))) ∙ joined-low a k v m h
 
-module _ (a have u : ℕ) (enough : u ≤ have) where
-  -- The high u of the low bits of a, ..
-  pub top-of : a / 2 ^ (have - u) % 2 ^ u ≡ a % 2 ^ have / 2 ^ (have - u)
-  top-of = sym (rw (let e : u + (have - u) ≡ have = omega arith in e) at (field a u (have - u)))
-
-  -- .. and those below them.
-  pub rest-of : a % 2 ^ (have - u) ≡ a % 2 ^ have % 2 ^ (have - u)
-  rest-of = sym (rw (let e : u + (have - u) ≡ have = omega arith in e) at (mod-mod-pow a u (have - u)))
-
 -- `v >> w` is 0 where v has no more than w bits.
 pub shift-test : (v w : ℕ) → eqb (v / 2 ^ w) 0 ≡ ltb v (2 ^ w)
 shift-test v w = go (ltb v (2 ^ w)) refl
@@ -92,3 +83,15 @@ shift-test v w = go (ltb v (2 ^ w)) refl
     go false e =
         let one : 1 ≤ v / 2 ^ w = le-div-iff-mul-le (pow-pos w) .1 (rw (one-mul (2 ^ w)) (ltb-false v (2 ^ w) e)) in
         rw e (ne-eqb (v / 2 ^ w) 0 (λ z. omega arith))
+
+-- `a | b` is 0 where both are.
+pub or-test : (a b : ℕ) → eqb (bitOr a b) 0 ≡ (eqb a 0 && eqb b 0)
+or-test a b = go (eqb a 0) (eqb b 0) refl refl
+  where
+    some : (0 < a + b) → eqb (bitOr a b) 0 ≡ false
+    some h = let e = or-add-and a b in let l = and-le-l a b in let r = and-le-r a b in ne-eqb (bitOr a b) 0 (λ z. omega arith)
+
+    go : (s t : Bool) → eqb a 0 ≡ s → eqb b 0 ≡ t → eqb (bitOr a b) 0 ≡ (eqb a 0 && eqb b 0)
+    go true true p q = rw (eqb-true a 0 p, eqb-true b 0 q)
+    go true false p q = let n = eqb-false b 0 q in some (omega arith) ∙ sym (rw (p, q))
+    go false t p q = let n = eqb-false a 0 p in some (omega arith) ∙ sym (rw p)

@@ -1,17 +1,19 @@
 -- Laws of a number's bytes, and of values packed into bytes. Assumes nothing.
-use Prim.Native.Nat.{ℕ, zero, suc, _*_, _%_, _^_, _<_}
-use mathlib.Core.Path.{_≡_, refl, ap, _∙_}
+use Prim.Native.Nat.{ℕ, zero, suc, _+_, _-_, _*_, _/_, _%_, _^_, _<_}
+use mathlib.Core.Path.{_≡_, refl, sym, ap, ap₂, _∙_}
 use mathlib.Core.Bool.{Bool, true, _&&_}
-use mathlib.Core.List.{List, [], _∷_}
-use native.Mathlib.Nat.{mod-eq-of-lt}
+use mathlib.Core.List.{List, [], _∷_, _++_}
+use native.Mathlib.Nat.{mod-eq-of-lt, zero-add, zero-sub}
+use native.Mathlib.Numerals.{add-one}
 use native.Mathlib.Omega.{arith}
 use lib.Dec.{ltb}
-use lib.ListN.{length, getD, replicate, length-replicate, getD-replicate}
+use lib.ListN.{length, getD, drop, replicate, length-replicate, getD-replicate, replicate-append-replicate}
 use lib.Pow.{areBytes}
 use borrow.Author.Tests.{lt-ltb}
+use Rattle.bitpack.specs.Bits.{bits}
 use Rattle.bitpack.specs.Packed.{total, packed, unpacked, fit, bytesOf, numberOf}
 use Rattle.bitpack.specs.Needs.{Packs}
-use Rattle.bitpack.proofs.PackLaws.{packed-lt, length-unpacked, unpacked-packed, packed-unpacked, packed-at}
+use Rattle.bitpack.proofs.PackLaws.{packed-lt, length-unpacked, unpacked-packed, packed-unpacked, packed-at, unpacked-at, unpacked-over, unpacked-append}
 
 -- The widths of k bytes.
 abbrev pub eights : ℕ → List ℕ
@@ -79,3 +81,33 @@ pub repacked : (ws bs : List ℕ) → total ws ≡ 8 * length bs → areBytes bs
     → bytesOf (length bs) (packed ws (unpacked ws (numberOf bs))) ≡ bs
 repacked ws bs whole e =
     ap (bytesOf (length bs)) (packed-unpacked ws (numberOf bs) ∙ mod-eq-of-lt (rw whole (number-lt bs e))) ∙ bytes-number bs e
+
+-- The bytes of a number in two parts.
+pub bytes-append : (a b n : ℕ) → bytesOf (a + b) n ≡ bytesOf a (n / 2 ^ (8 * b)) ++ bytesOf b n
+unfolding bytesOf
+bytes-append a b n =
+    ap (λ (ws : List ℕ). unpacked ws n) (sym (replicate-append-replicate a b 8))
+    ∙ unpacked-append (eights a) (eights b) n
+    ∙ ap (λ (t : ℕ). unpacked (eights a) (n / 2 ^ t) ++ unpacked (eights b) n) (total-eights b)
+
+-- Numbers with the same low bits have the same bytes.
+pub bytes-low : (k m n : ℕ) → m % 2 ^ (8 * k) ≡ n % 2 ^ (8 * k) → bytesOf k m ≡ bytesOf k n
+unfolding bytesOf
+bytes-low k m n e = sym (over m) ∙ ap (unpacked (eights k)) e ∙ over n
+  where
+    over : (x : ℕ) → unpacked (eights k) (x % 2 ^ (8 * k)) ≡ unpacked (eights k) x
+    over x = rw (zero-add (total (eights k)), total-eights k) at (unpacked-over (eights k) 0 x)
+
+-- The bits from byte i on.
+pub total-rest : (k i : ℕ) → total (drop i (eights k)) ≡ 8 * (k - i)
+total-rest zero zero = refl
+total-rest zero (suc i) = rw (zero-sub (suc i)) refl
+total-rest (suc k) zero = let h = total-eights k in omega arith
+total-rest (suc k) (suc i) = total-rest k i ∙ ap (λ (x : ℕ). 8 * x) (let e : k - i ≡ suc k - suc i = omega arith in e)
+
+-- Byte i is its eight bits of the number.
+pub byte-bits : (bs : List ℕ) (i : ℕ) → areBytes bs ≡ true → i < length bs → getD bs i 0 ≡ bits (numberOf bs) (8 * (length bs - (i + 1))) 8
+byte-bits bs i e h =
+    byte-at bs i e
+    ∙ unpacked-at (eights (length bs)) i (numberOf bs)
+    ∙ ap₂ (bits (numberOf bs)) (total-rest (length bs) (suc i) ∙ ap (λ (x : ℕ). 8 * (length bs - x)) (sym (add-one i))) (eights-at (length bs) i h)

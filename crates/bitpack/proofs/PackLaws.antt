@@ -2,15 +2,15 @@
 use Prim.Native.Nat.{ℕ, zero, suc, _+_, _*_, _/_, _%_, _^_, _≤_, _<_}
 use mathlib.Core.Path.{_≡_, refl, sym, ap, ap₂, _∙_}
 use mathlib.Core.Bool.{Bool, true, false, _&&_, false≢true}
-use mathlib.Core.List.{List, [], _∷_}
-use native.Mathlib.Nat.{mod-eq-of-lt, mod-one, add-assoc, not-suc-le-zero, le-of-suc-le-suc, zero-add}
+use mathlib.Core.List.{List, [], _∷_, _++_}
+use native.Mathlib.Nat.{mod-eq-of-lt, mod-one, add-assoc, add-comm, not-suc-le-zero, le-of-suc-le-suc, zero-add}
 use native.Mathlib.Numerals.{add-one}
 use native.Mathlib.Omega.{arith}
 use lib.Arith.{digits-lt}
 use lib.Dec.{ltb, leb}
 use lib.ListN.{length, getD, drop, drop-of-length-le}
 use lib.Seq.{drop-cons}
-use lib.Pow.{pow-pos, pow-add, high, low, mod-pow-add}
+use lib.Pow.{pow-pos, pow-add, high, low, mod-pow-add, shr-shr}
 use borrow.Author.Tests.{ltb-true, lt-ltb, leb-true}
 use Rattle.text.proofs.Truth.{and-left, and-right}
 use Rattle.bitpack.specs.Bits.{bits}
@@ -127,8 +127,26 @@ unpacked-at [] i n = sym (mod-one (n / 2 ^ 0))
 unpacked-at (w ∷ ws) zero n = refl
 unpacked-at (w ∷ ws) (suc i) n = unpacked-at ws i n
 
+-- Value i of packed ones is its bits of their number.
+pub value-bits : (ws vs : List ℕ) (i : ℕ) → fit ws vs ≡ true → getD vs i 0 ≡ bits (packed ws vs) (total (drop (suc i) ws)) (getD ws i 0)
+value-bits ws vs i e = packed-at ws vs i e ∙ unpacked-at ws i (packed ws vs)
+
 -- The widths from i on are width i and those after it.
 pub total-drop : (ws : List ℕ) (i : ℕ) → i < length ws → total (drop i ws) ≡ getD ws i 0 + total (drop (suc i) ws)
 total-drop [] i h = absurd (not-suc-le-zero h)
 total-drop (w ∷ ws) zero h = refl
 total-drop (w ∷ ws) (suc i) h = total-drop ws i (le-of-suc-le-suc h)
+
+-- ---- widths in two parts
+
+-- Widths in two parts have the bits of both.
+total-append : (us ws : List ℕ) → total (us ++ ws) ≡ total us + total ws
+total-append [] ws = sym (zero-add (total ws))
+total-append (u ∷ us) ws = let h = total-append us ws in omega arith
+
+-- The values of the first part are those of the bits above the second's.
+pub unpacked-append : (us ws : List ℕ) (n : ℕ) → unpacked (us ++ ws) n ≡ unpacked us (n / 2 ^ total ws) ++ unpacked ws n
+unfolding bits
+unpacked-append [] ws n = refl
+unpacked-append (u ∷ us) ws n =
+    ap₂ _∷_ (ap (λ (x : ℕ). x % 2 ^ u) (ap (λ (t : ℕ). n / 2 ^ t) (total-append us ws ∙ add-comm (total us) (total ws)) ∙ sym (shr-shr n (total ws) (total us)))) (unpacked-append us ws n)

@@ -1,4 +1,4 @@
--- Values of given widths as bits of one number, and as bytes.
+-- Values of given widths as bits of one number, and as words and bytes.
 pub mod Bits
 pub mod Packed
 pub mod Words

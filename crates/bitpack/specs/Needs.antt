@@ -1,5 +1,5 @@
--- What packing and unpacking ask of a list of widths.
-use Prim.Native.Nat.{ℕ, suc, _+_, _-_, _*_, _%_, _^_, _≤_, _<_}
+-- What packing, unpacking and the making of a word ask of a list of widths.
+use Prim.Native.Nat.{ℕ, _-_, _*_, _%_, _^_, _≤_, _<_}
 use mathlib.Core.Path.{_≡_}
 use mathlib.Core.Bool.{Bool, true, _&&_}
 use mathlib.Core.List.{List, [], _∷_}
@@ -29,11 +29,11 @@ pub record Unpacks (ws : List ℕ) (k places : ℕ) : Type 0 where
   pub whole : total ws ≡ 8 * k
   pub small : narrow mostBits ws ≡ true
 
--- Word k ends within value i, which has `left` bits more. Those of its bits that stand before value i, if any, are held.
-pub record Completes (ws vs : List ℕ) (i held left k : ℕ) : Type 0 where
+-- Value i completes a word, and its `last` bits come after that word. The value's other bits are the word's lowest (the lowest 32 of them, where they are
+-- more); the bits above them, if any, stand before the value, and are the lowest that are held.
+pub record Completes (ws vs : List ℕ) (i held last : ℕ) : Type 0 where
   pub fitting : fit ws vs ≡ true
   pub small : narrow mostBits ws ≡ true
   pub there : i < length ws
-  pub within : left ≤ getD ws i 0
-  pub ends : 32 * suc k + left + total (drop (suc i) ws) ≡ total ws
-  pub begins : held % 2 ^ (32 - (getD ws i 0 - left)) ≡ bits (packed ws vs) (total (drop i ws)) (32 - (getD ws i 0 - left))
+  pub within : last ≤ getD ws i 0
+  pub above : held % 2 ^ (32 - (getD ws i 0 - last)) ≡ bits (packed ws vs) (total (drop i ws)) (32 - (getD ws i 0 - last))

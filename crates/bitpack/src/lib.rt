@@ -7,6 +7,5 @@ mod unpacking;
 mod word;
 
 pub use fitting::all_fit;
-pub use fitting::fits_width;
 pub use packing::pack;
 pub use unpacking::unpack;

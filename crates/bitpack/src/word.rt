@@ -3,41 +3,47 @@ use crate::bits::append;
 use crate::bits::low_byte;
 use crate::bits::wide;
 ghost use mathlib.Core.Path.{_≡_};
-ghost use Prim.Native.Nat.{_+_, _-_, _*_, _≤_};
-ghost use lib.ListN.{length};
+ghost use Prim.Native.Nat.{suc, _+_, _-_, _*_, _≤_};
+ghost use lib.ListN.{length, drop};
 ghost use Rattle.text.specs.Place.{put};
 ghost use Rattle.bitpack.specs.Bits.{bits};
-ghost use Rattle.bitpack.specs.Packed.{bytesOf, numberOf};
+ghost use Rattle.bitpack.specs.Packed.{total, packed, bytesOf, numberOf};
 ghost use Rattle.bitpack.specs.Words.{wordOf};
 ghost use Rattle.bitpack.specs.Needs.{Completes};
 
-// Puts word k of the packed values, which value i completes, at its place: of the bits held those that the word begins with, and below
-// them the value's bits but the last `left`.
+// The word that value i completes: its 32 bits of the packed number, of which value i without its last bits has the lowest, and what is held the others.
+fn make_word(widths: &[u8], values: &[u64], i: usize, held: u64, last: u64) -> u32
+    requires { ⌜ Completes (now widths) (now values) i held last ⌝ }
+    ensures { λ r. ⌜ r ≡ bits (packed (now (widths .entry)) (now (values .entry))) (last + total (drop (suc i) (now (widths .entry)))) 32 ⌝ }
+{
+    (append(held, wide(widths[i]) - last, values[i] >> last) % 0x1_0000_0000) as u32
+}
+
+// Puts word k of the packed values, which value i completes, at its place.
 pub fn put_word(
     widths: &[u8],
     values: &[u64],
     i: usize,
     held: u64,
-    left: u64,
+    last: u64,
     k: usize,
     out: &mut [u8],
 )
-    requires { ⌜ Completes (now widths) (now values) i held left k × (4 * k + 4 ≤ length (now out)) ⌝ }
+    requires { ⌜ Completes (now widths) (now values) i held last × (32 * suc k + last + total (drop (suc i) (now widths)) ≡ total (now widths)) × (4 * k + 4 ≤ length (now out)) ⌝ }
     ensures { λ _. ⌜ now (out .exit) ≡ put (now (out .entry)) (4 * k) (bytesOf 4 (wordOf (now (widths .entry)) (now (values .entry)) k)) ⌝ }
 {
-    let word = append(held, wide(widths[i]) - left, values[i] >> left);
-    store_word(word, out, 4 * k);
+    put_four(out, 4 * k, make_word(widths, values, i, held, last) as u64);
 }
 
 // Puts the four low bytes of a number.
-fn store_word(word: u64, out: &mut [u8], at: usize)
+fn put_four(out: &mut [u8], at: usize, x: u64)
     requires { ⌜ at + 4 ≤ length (now out) ⌝ }
-    ensures { λ _. ⌜ now (out .exit) ≡ put (now (out .entry)) at (bytesOf 4 word) ⌝ }
+    ensures { λ _. ⌜ now (out .exit) ≡ put (now (out .entry)) at (bytesOf 4 x) ⌝ }
 {
-    out[at] = low_byte(word >> 24);
-    out[at + 1] = low_byte(word >> 16);
-    out[at + 2] = low_byte(word >> 8);
-    out[at + 3] = low_byte(word);
+    out[at] = low_byte(x >> 24);
+    out[at + 1] = low_byte(x >> 16);
+    out[at + 2] = low_byte(x >> 8);
+    out[at + 3] = low_byte(x);
 }
 
 // The word that begins with byte i: its 32 bits of the number of the bytes.

@@ -1,5 +1,5 @@
 -- The definitions computed on document 01's example and on refusals.
-use Prim.Native.Nat.{ℕ, _-_, _^_}
+use Prim.Native.Nat.{ℕ, _+_, _-_, _*_, _^_}
 use mathlib.Core.Path.{_≡_, refl}
 use mathlib.Core.Bool.{true, false}
 use mathlib.Core.List.{List, [], _∷_, _++_, map}
@@ -7,6 +7,7 @@ use lib.ListN.{take, drop, set, replicate}
 use Rattle.text.specs.Questions.{refused}
 use Rattle.bitpack.specs.Bits.{bits}
 use Rattle.bitpack.specs.Packed.{total, bytesOf, numberOf}
+use Rattle.bitpack.specs.Words.{wordOf}
 use Rattle.isa.specs.Registers.{ioBits}
 use Rattle.machine.specs.declared.Record.{Record}
 use Rattle.saved.specs.Layout.{widths, fieldsOf, recordOf, savedBytes, savedFields}
@@ -17,6 +18,11 @@ use Rattle.saved.specs.Calls.{freshRecord, saveOutcome, loadOutcome, loa
 all-bits : total widths ≡ 728
 unfolding widths ioBits
 all-bits = refl
+
+-- 22 words and 3 bytes.
+words-and-bytes : total widths ≡ 32 * 22 + 8 * 3
+unfolding widths ioBits
+words-and-bytes = refl
 
 -- "the run above saves as 01 20 01 00 00 00 00 02 and on": halted at PC 1 after two cycles, leds 5, clks 2.
 halted : Record
@@ -69,6 +75,11 @@ busy-bytes : savedBytes busy
     ∷ 0x02 ∷ 0xC0 ∷ 0x00 ∷ 0x00 ∷ 0x03 ∷ 0x2A ∷ 0xAC ∷ 0xF1 ∷ 0x9A ∷ 0xBC ∷ 0xDE ∷ []
 unfolding busy savedBytes fieldsOf widths ioBits bytesOf bits
 busy-bytes = refl
+
+-- Its words are the same bytes, four by four: the first two and the last, after which 9A BC DE are left over.
+busy-words : map (wordOf widths (fieldsOf busy)) (0 ∷ 1 ∷ 21 ∷ []) ≡ 0x01BABC01 ∷ 0x23456789 ∷ 0x032AACF1 ∷ []
+unfolding busy fieldsOf widths ioBits wordOf bits
+busy-words = refl
 
 busy-back : loadRecord (savedBytes busy) ≡ busy
 unfolding busy savedBytes savedFields recordOf isSound fieldsOf widths ioBits bytesOf numberOf bits

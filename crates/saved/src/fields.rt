@@ -3,6 +3,8 @@ use crate::copies::short;
 use crate::copies::shorten;
 use crate::copies::widen;
 use crate::layout::EDITION;
+use crate::layout::FIRST_IO;
+use crate::layout::FIRST_REGISTER;
 use machine::Core;
 use machine::Record;
 ghost use mathlib.Core.Path.{_≡_};
@@ -23,8 +25,8 @@ pub fn fields(r: Record) -> [u64; 42]
     f[3] = r.core.pc as u64;
     f[4] = r.core.age;
     f[5] = r.core.left as u64;
-    widen(&regs, &mut f[6..19]);
-    widen(&io, &mut f[19..]);
+    widen(&regs, &mut f[FIRST_REGISTER..FIRST_IO]);
+    widen(&io, &mut f[FIRST_IO..]);
     f
 }
 
@@ -35,8 +37,8 @@ pub fn record_of(f: [u64; 42]) -> Record
 {
     let mut regs: [u32; 13] = [0; 13];
     let mut io: [u32; 23] = [0; 23];
-    shorten(&f[6..19], &mut regs);
-    shorten(&f[19..], &mut io);
+    shorten(&f[FIRST_REGISTER..FIRST_IO], &mut regs);
+    shorten(&f[FIRST_IO..], &mut io);
     let core = Core {
         status: short(f[1]),
         handler: short(f[2]),

@@ -6,6 +6,11 @@ pub const EDITION: u64 = 1;
 // How many bytes a saved record has.
 pub const BYTES: usize = 91;
 
+// The places of the fields of R3 and of I/O register 0: the registers stand between the two, the I/O registers at the end.
+pub const FIRST_REGISTER: usize = 6;
+
+pub const FIRST_IO: usize = 19;
+
 // The bits of each field.
 pub const WIDTHS: [u8; 42] = [
     // edition, status, flag, PC, age, left

@@ -1,5 +1,7 @@
 // Which records are sound.
 use crate::fields::fields;
+use crate::layout::FIRST_IO;
+use crate::layout::FIRST_REGISTER;
 use crate::layout::WIDTHS;
 use bitpack::all_fit;
 use isa::io::DISKCMD;
@@ -27,16 +29,17 @@ pub fn is_sound(r: Record) -> bool
     is_sound_with(r, f)
 }
 
-// Whether a record with these fields is sound. R3 to R15 fit their widths: they are numbers of 32 bits as they are.
+// Whether a record with these fields is sound. The fields of R3 to R15 fit their widths, being numbers of 32 bits as they are; those before and after
+// them are asked.
 pub fn is_sound_with(r: Record, f: [u64; 42]) -> bool
     requires { ⌜ f ≡ fieldsOf r ⌝ }
     ensures { λ b. ⌜ b ≡ isSound r ⌝ }
 {
     let widths = WIDTHS;
-    if !all_fit(&widths[..6], &f[..6]) {
+    if !all_fit(&widths[..FIRST_REGISTER], &f[..FIRST_REGISTER]) {
         return false;
     }
-    if !all_fit(&widths[19..], &f[19..]) {
+    if !all_fit(&widths[FIRST_IO..], &f[FIRST_IO..]) {
         return false;
     }
     is_possible(r)

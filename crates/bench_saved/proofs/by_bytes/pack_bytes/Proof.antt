@@ -5,10 +5,11 @@ use native.Mathlib.Omega.{arith}
 use lib.ListN.{length, getD}
 use borrow.Author.Needs.{needs}
 use Rattle.bitpack.specs.Packed.{packed, bytesOf}
-use Rattle.bitpack.proofs.BitLaws.{shifted-low, top-of, rest-of}
+use Rattle.bitpack.proofs.BitLaws.{shifted-low}
 use Rattle.bitpack.proofs.PackLaws.{fit-length, fit-at, narrow-at, packed-at}
 use Rattle.bitpack.proofs.ByteLaws.{eights, length-eights, eights-at, total-eights}
 use Rattle.bitpack.proofs.StreamLaws.{Loop, begun, has-more, pulled, emitted, finished}
+use Rattle.bench_saved.proofs.HeldLaws.{top-of, rest-of}
 use Rattle.bench_saved.proofs.by_bytes.pack_bytes.Statement.{statement}
 use Rattle.bench_saved.proofs.by_bytes.pack_bytes.Tie as tie
 

@@ -20,9 +20,9 @@ use Rattle.bench_saved.proofs.by_bytes.save_by_bytes.Tie as tie
 length-is : (c : tie.Else1) → eqb (length (c .before .before .args .bytes .now)) 91 ≡ true
 length-is c = eq-eqb _ 91 (c .if1 .left)
 
-fit-is : (c : tie.After-all-fit-one-by-one) → fit widths (fieldsOf (c .before .before .before .before .before .before .args .r)) ≡ c .all-fit-one-by-one .result
+fit-is : (c : tie.After-all-fit-ending-early) → fit widths (fieldsOf (c .before .before .before .before .before .before .args .r)) ≡ c .all-fit-ending-early .result
 unfolding widths ioBits
-fit-is c = sym (c .all-fit-one-by-one .ensures ∙ ap (λ (f : List ℕ). fit widths f) (c .before .before .before .fields .ensures))
+fit-is c = sym (c .all-fit-ending-early .ensures ∙ ap (λ (f : List ℕ). fit widths f) (c .before .before .before .fields .ensures))
 
 sound-is : (c : tie.Else3) → isSound (c .before .before .before .before .before .before .before .before .before .args .r) ≡ true
 sound-is c = sym (c .before .is-possible .ensures) ∙ not-false (c .before .is-possible .result) (c .if3 .left)
@@ -33,23 +33,23 @@ returns c = let a = c .before .before .args in save-wrong-length (a .r) (a .byte
 fields-requires : tie.Need-fields-requires
 fields-requires c κs = search needs
 
-slice-aggregate-all-fit-one-by-one : tie.Need-slice-aggregate-all-fit-one-by-one
-slice-aggregate-all-fit-one-by-one c = search needs
+slice-aggregate-all-fit-ending-early : tie.Need-slice-aggregate-all-fit-ending-early
+slice-aggregate-all-fit-ending-early c = search needs
 
-slice-aggregate-all-fit-one-by-one-2 : tie.Need-slice-aggregate-all-fit-one-by-one-2
-slice-aggregate-all-fit-one-by-one-2 c = search needs
+slice-aggregate-all-fit-ending-early-2 : tie.Need-slice-aggregate-all-fit-ending-early-2
+slice-aggregate-all-fit-ending-early-2 c = search needs
 
-all-fit-one-by-one-requires : tie.Need-all-fit-one-by-one-requires
-all-fit-one-by-one-requires c κs = search needs
+all-fit-ending-early-requires : tie.Need-all-fit-ending-early-requires
+all-fit-ending-early-requires c κs = search needs
 
 returns-2 : tie.Need-returns-2
 returns-2 c =
     let a = c .before .before .before .before .before .before .before .args in
-    let no = fit-is (c .before) ∙ not-true (c .before .all-fit-one-by-one .result) (c .if2 .taken) in
+    let no = fit-is (c .before) ∙ not-true (c .before .all-fit-ending-early .result) (c .if2 .taken) in
     save-unsound (a .r) (a .bytes .now) (length-is (c .before .before .before .before .before)) (unfit-unsound (a .r) no)
 
 is-possible-requires : tie.Need-is-possible-requires
-is-possible-requires c κs = fit-is (c .before) ∙ not-false (c .before .all-fit-one-by-one .result) (c .if2 .left)
+is-possible-requires c κs = fit-is (c .before) ∙ not-false (c .before .all-fit-ending-early .result) (c .if2 .left)
 
 returns-3 : tie.Need-returns-3
 returns-3 c =
@@ -84,9 +84,9 @@ save-by-bytes-spec =
     (tie.spec
     returns
     fields-requires
-    slice-aggregate-all-fit-one-by-one
-    slice-aggregate-all-fit-one-by-one-2
-    all-fit-one-by-one-requires
+    slice-aggregate-all-fit-ending-early
+    slice-aggregate-all-fit-ending-early-2
+    all-fit-ending-early-requires
     returns-2
     is-possible-requires
     returns-3

@@ -2,20 +2,21 @@
 use Prim.Native.Nat.{ℕ, suc, _+_, _-_, _*_, _^_, _≤_, _<_}
 use mathlib.Core.Path.{_≡_, refl, ap, _∙_}
 use native.Mathlib.Omega.{arith}
-use lib.ListN.{length, getD}
+use lib.ListN.{length, getD, drop}
 use borrow.Author.Needs.{needs}
+use Rattle.bitpack.specs.Packed.{total}
 use Rattle.bitpack.specs.Needs.{Completes}
 use Rattle.bitpack.proofs.PackLaws.{fit-length, fit-at, narrow-at}
 use Rattle.bitpack.proofs.ByteLaws.{length-bytes}
-use Rattle.bitpack.proofs.PackingLaws.{Packing, begun, room, held-on, words-within, finished, place, completes, one-word, two-words}
+use Rattle.bitpack.proofs.PackingLaws.{Packing, begun, room, held-on, words-within, finished, word-room, word-ends, completes, one-word, two-words}
 use Rattle.bitpack.proofs.packing.pack.Statement.{statement}
 use Rattle.bitpack.proofs.packing.pack.Tie as tie
 
 abbrev Inv-loop : tie.InvT-loop
-Inv-loop widths values out₀ held₀ left₀ i₀ k₀ out held left i k = Packing widths values out₀ out i k held left
+Inv-loop widths values out₀ acc₀ have₀ i₀ k₀ out acc have i k = Packing widths values out₀ out i k acc have
 
 abbrev μ-loop : tie.MeasureT-loop
-μ-loop widths values out₀ held₀ left₀ i₀ k₀ out held left i k = length widths - i
+μ-loop widths values out₀ acc₀ have₀ i₀ k₀ out acc have i k = length widths - i
 
 -- Value i is there, and fits few bits.
 value-there : (c : tie.After-wide Inv-loop μ-loop) → c .before .before .before .loop .i < length (c .before .before .before .before .before .before .before .args .values .now)
@@ -27,20 +28,22 @@ width-small c = rw (c .wide .ensures) (narrow-at 40 (c .before .before .before .
 value-small : (c : tie.After-wide Inv-loop μ-loop) → getD (c .before .before .before .before .before .before .before .args .values .now) (c .before .before .before .loop .i) 0 < 2 ^ c .wide .result
 value-small c = rw (c .wide .ensures) (fit-at (c .before .before .before .before .before .before .before .args .widths .now) (c .before .before .before .before .before .before .before .args .values .now) (c .before .before .before .loop .i) (c .before .before .before .before .before .before .before .pre .fitting))
 
--- Word j ends in value i: what its making asks, and that there are so many bytes.
-word-asked : (c : tie.After-wide Inv-loop μ-loop) (j last : ℕ) → last + 32 * suc j ≡ c .before .before .before .loop .left + c .wide .result + 32 * c .before .before .before .loop .k → c .before .before .before .loop .k ≤ j
+-- Word j ends in value i: what its making asks.
+word-asked : (c : tie.After-wide Inv-loop μ-loop) (j last : ℕ) → last + 32 * suc j ≡ c .before .before .before .loop .have + c .wide .result + 32 * c .before .before .before .loop .k → c .before .before .before .loop .k ≤ j
     → (size : ℕ) → size ≡ length (c .before .before .before .loop .out)
-    → Completes (c .before .before .before .before .before .before .before .args .widths .now) (c .before .before .before .before .before .before .before .args .values .now) (c .before .before .before .loop .i) (c .before .before .before .loop .held) last j × (4 * j + 4 ≤ size)
+    → Completes (c .before .before .before .before .before .before .before .args .widths .now) (c .before .before .before .before .before .before .before .args .values .now) (c .before .before .before .loop .i) (c .before .before .before .loop .acc) last × (32 * suc j + last + total (drop (suc (c .before .before .before .loop .i)) (c .before .before .before .before .before .before .before .args .widths .now)) ≡ total (c .before .before .before .before .before .before .before .args .widths .now)) × (4 * j + 4 ≤ size)
 word-asked c j last e next size same =
     let w = c .wide .ensures in
     let t = c .before .before .loop-test .taken in
-    (completes (c .before .before .before .before .before .before .before .pre) (c .before .before .before .loop .inv) _ _ w refl t j last e next, rw (same ∙ room (c .before .before .before .before .before .before .before .pre) (c .before .before .before .loop .inv)) (place (c .before .before .before .before .before .before .before .pre) (c .before .before .before .loop .inv) _ _ w refl t j last e))
+    let l = c .before .before .before .loop .inv in
+    let p = c .before .before .before .before .before .before .before .pre in
+    (completes p l _ _ w refl t j last e next, word-ends p l _ _ w refl t j last e next, rw (same ∙ room p l) (word-room p l _ _ w refl t j last e))
 
-word-there : (c : tie.After-wide Inv-loop μ-loop) (words : ℕ) → 32 * suc words ≤ c .before .before .before .loop .left + c .wide .result
+word-there : (c : tie.After-wide Inv-loop μ-loop) (words : ℕ) → 32 * suc words ≤ c .before .before .before .loop .have + c .wide .result
     → c .before .before .before .loop .k + suc words ≤ length (c .before .before .before .before .before .before .before .args .out .now)
 word-there c words some =
     let l = c .before .before .before .loop in
-    let h = place (c .before .before .before .before .before .before .before .pre) (l .inv) _ _ (c .wide .ensures) refl (c .before .before .loop-test .taken) (l .k + words) (l .left + c .wide .result - 32 * suc words) (omega arith) in
+    let h = word-room (c .before .before .before .before .before .before .before .pre) (l .inv) _ _ (c .wide .ensures) refl (c .before .before .loop-test .taken) (l .k + words) (l .have + c .wide .result - 32 * suc words) (omega arith) in
     omega arith
 
 loop-holds : tie.Need-loop-holds Inv-loop μ-loop
@@ -58,8 +61,8 @@ mul-v c = let h = value-there c in search needs
 shared-slice-read-v : tie.Need-shared-slice-read-v Inv-loop μ-loop
 shared-slice-read-v c = value-there (c .before)
 
-add-left : tie.Need-add-left Inv-loop μ-loop
-add-left c = let b = width-small (c .before) in let f = c .before .before .before .before .loop .inv .few in search needs
+add-have : tie.Need-add-have Inv-loop μ-loop
+add-have c = let b = width-small (c .before) in let f = c .before .before .before .before .loop .inv .few in search needs
 
 append-requires : tie.Need-append-requires Inv-loop μ-loop
 append-requires c κs = let b = width-small (c .before .before) in (omega arith, value-small (c .before .before))
@@ -121,28 +124,28 @@ loop-again-3 c =
     let both = c .before .before .before .before .before .before .before .before .if2 .left in
     two-words (a .before .before .before .before .before .before .before .pre) (a .before .before .before .loop .inv) _ _ (a .wide .ensures) refl (a .before .before .loop-test .taken) _ _ _ (omega arith) (c .before .before .before .before .before .before .put-word2 .ensures) (c .before .before .put-word3 .ensures)
 
-mul-put-bytes : tie.Need-mul-put-bytes Inv-loop μ-loop
-mul-put-bytes c =
+mul-put-low-bytes : tie.Need-mul-put-low-bytes Inv-loop μ-loop
+mul-put-low-bytes c =
     let s = c .before .before .before .before .before in
     let h = words-within (s .pre) (c .before .loop .inv) (c .loop-test .left) in
     let r = room (s .pre) (c .before .loop .inv) in
     let m : 4 * c .before .loop .k ≤ length (s .args .out .now) = omega arith in
     search needs
 
-sub-put-bytes : tie.Need-sub-put-bytes Inv-loop μ-loop
-sub-put-bytes c = words-within (c .before .before .before .before .before .pre) (c .before .loop .inv) (c .loop-test .left)
+sub-put-low-bytes : tie.Need-sub-put-low-bytes Inv-loop μ-loop
+sub-put-low-bytes c = words-within (c .before .before .before .before .before .pre) (c .before .loop .inv) (c .loop-test .left)
 
-part-put-bytes-start : tie.Need-part-put-bytes-start Inv-loop μ-loop
-part-put-bytes-start c = words-within (c .before .before .before .before .before .pre) (c .before .loop .inv) (c .loop-test .left)
+part-put-low-bytes-start : tie.Need-part-put-low-bytes-start Inv-loop μ-loop
+part-put-low-bytes-start c = words-within (c .before .before .before .before .before .pre) (c .before .loop .inv) (c .loop-test .left)
 
-part-put-bytes-end : tie.Need-part-put-bytes-end Inv-loop μ-loop
-part-put-bytes-end c = search needs
+part-put-low-bytes-end : tie.Need-part-put-low-bytes-end Inv-loop μ-loop
+part-put-low-bytes-end c = search needs
 
-put-bytes-requires : tie.Need-put-bytes-requires Inv-loop μ-loop
-put-bytes-requires c κs = search needs
+put-low-bytes-requires : tie.Need-put-low-bytes-requires Inv-loop μ-loop
+put-low-bytes-requires c κs = search needs
 
 returns : tie.Need-returns Inv-loop μ-loop
-returns c = finished (c .before .before .before .before .before .before .before .before .before .pre) (c .before .before .before .before .before .loop .inv) (c .before .before .before .before .loop-test .left) _ (c .before .before .put-bytes .ensures)
+returns c = finished (c .before .before .before .before .before .before .before .before .before .pre) (c .before .before .before .before .before .loop .inv) (c .before .before .before .before .loop-test .left) _ (c .before .before .put-low-bytes .ensures)
 
 same-length : tie.Need-same-length Inv-loop μ-loop
 same-length c = ap length (returns c) ∙ length-bytes (length (c .before .before .before .before .before .before .before .before .before .args .out .now)) _
@@ -158,7 +161,7 @@ pack-spec =
     wide-requires
     mul-v
     shared-slice-read-v
-    add-left
+    add-have
     append-requires
     add-i
     loop-less
@@ -176,10 +179,10 @@ pack-spec =
     add-i-3
     loop-less-3
     loop-again-3
-    mul-put-bytes
-    sub-put-bytes
-    part-put-bytes-start
-    part-put-bytes-end
-    put-bytes-requires
+    mul-put-low-bytes
+    sub-put-low-bytes
+    part-put-low-bytes-start
+    part-put-low-bytes-end
+    put-low-bytes-requires
     same-length
     returns)

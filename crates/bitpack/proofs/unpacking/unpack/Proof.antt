@@ -13,8 +13,7 @@ use Rattle.text.proofs.Truth.{and-left, and-right}
 use Rattle.bitpack.specs.Packed.{numberOf}
 use Rattle.bitpack.proofs.BitLaws.{bits-lt}
 use Rattle.bitpack.proofs.PackLaws.{narrow-at}
-use Rattle.bitpack.proofs.ByteLaws.{eights, length-eights, eights-at, total-eights, all-bytes, byte-at}
-use Rattle.bitpack.proofs.WordLaws.{total-rest}
+use Rattle.bitpack.proofs.ByteLaws.{eights, length-eights, eights-at, total-eights, all-bytes, byte-at, total-rest}
 use Rattle.bitpack.proofs.StreamLaws.{Loop, begun, has-more, pull-lt, pulled-all, pulled, emitted, finished}
 use Rattle.bitpack.proofs.unpacking.unpack.Statement.{statement}
 use Rattle.bitpack.proofs.unpacking.unpack.Tie as tie

@@ -1,10 +1,10 @@
--- `bitpack::word::store_word` meets its contract.
+-- `bitpack::word::put_four` meets its contract.
 use native.Mathlib.Omega.{arith}
 use lib.ListN.{length-set}
 use borrow.Author.Needs.{needs}
 use Rattle.bitpack.proofs.WordLaws.{four-stored}
-use Rattle.bitpack.proofs.word.store_word.Statement.{statement}
-use Rattle.bitpack.proofs.word.store_word.Tie as tie
+use Rattle.bitpack.proofs.word.put_four.Statement.{statement}
+use Rattle.bitpack.proofs.word.put_four.Tie as tie
 
 low-byte-requires : tie.Need-low-byte-requires
 low-byte-requires c κs = search needs
@@ -45,10 +45,10 @@ same-length c = search needs
 returns : tie.Need-returns
 returns c =
     let a = c .before .before .before .before .before .args in
-    four-stored (a .out .now) (a .at) (a .word) _ _ _ _ (c .before .before .before .low-byte .ensures) (c .before .before .low-byte2 .ensures) (c .before .low-byte3 .ensures) (c .low-byte4 .ensures)
+    four-stored (a .out .now) (a .at) (a .x) _ _ _ _ (c .before .before .before .low-byte .ensures) (c .before .before .low-byte2 .ensures) (c .before .low-byte3 .ensures) (c .low-byte4 .ensures)
 
-pub store-word-spec : {M : Type 1} → statement M
-store-word-spec =
+pub put-four-spec : {M : Type 1} → statement M
+put-four-spec =
     tie.close
     (tie.spec
     low-byte-requires

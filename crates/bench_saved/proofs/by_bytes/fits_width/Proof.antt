@@ -1,12 +1,12 @@
--- `bitpack::fitting::fits_width` meets its contract.
+-- `bench_saved::by_bytes::fits_width` meets its contract.
 use mathlib.Core.Path.{sym}
 use native.Mathlib.Nat.{lt-of-lt-of-le}
 use lib.Pow.{pow-mono}
 use borrow.Author.Tests.{lt-ltb}
 use borrow.Author.Needs.{needs}
 use Rattle.bitpack.proofs.BitLaws.{shift-test}
-use Rattle.bitpack.proofs.fitting.fits_width.Statement.{statement}
-use Rattle.bitpack.proofs.fitting.fits_width.Tie as tie
+use Rattle.bench_saved.proofs.by_bytes.fits_width.Statement.{statement}
+use Rattle.bench_saved.proofs.by_bytes.fits_width.Tie as tie
 
 shr-result : tie.Need-shr-result
 shr-result c = search needs

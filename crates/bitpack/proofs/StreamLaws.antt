@@ -1,5 +1,5 @@
--- A number's bits go in by one list of widths and come out by another; between the two some are held. Packing goes in by the widths and
--- comes out by bytes, unpacking the other way round. Assumes nothing.
+-- A number's bits go in by one list of widths and come out by another; between the two some are held. Unpacking goes in by bytes and comes out
+-- by the widths; packing a byte at a time the other way round. Assumes nothing.
 use Prim.Native.Nat.{ℕ, suc, _+_, _-_, _*_, _/_, _%_, _^_, _≤_, _<_}
 use mathlib.Core.Path.{_≡_, refl, sym, ap, _∙_}
 use mathlib.Core.Bool.{Bool, true, false}

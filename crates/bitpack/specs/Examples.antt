@@ -3,9 +3,11 @@ use Prim.Native.Nat.{ℕ}
 use mathlib.Core.Path.{_≡_, refl}
 use mathlib.Core.Bool.{true, false}
 use mathlib.Core.List.{List, [], _∷_, map}
+use native.Mathlib.Omega.{arith}
 use Rattle.bitpack.specs.Bits.{bits}
 use Rattle.bitpack.specs.Packed.{packed, unpacked, fit, bytesOf, numberOf}
 use Rattle.bitpack.specs.Words.{wordOf}
+use Rattle.bitpack.specs.Needs.{Completes}
 
 -- 1, 35, nothing, 0x456 and 7 in 1, 7, 0, 12 and 4 bits are the bytes A3 45 67, and come back.
 three-bytes : bytesOf 3 (packed (1 ∷ 7 ∷ 0 ∷ 12 ∷ 4 ∷ []) (1 ∷ 0x23 ∷ 0 ∷ 0x456 ∷ 7 ∷ [])) ≡ 0xA3 ∷ 0x45 ∷ 0x67 ∷ []
@@ -37,6 +39,16 @@ their-bytes = refl
 two-at-once : map (wordOf (25 ∷ 40 ∷ 31 ∷ []) (0x1ABCDEF ∷ 0xFEDCBA9876 ∷ 0x12345678 ∷ [])) (0 ∷ 1 ∷ 2 ∷ []) ≡ 0xD5E6F7FF ∷ 0x6E5D4C3B ∷ 0x12345678 ∷ []
 unfolding wordOf bits
 two-at-once = refl
+
+-- What the making of a word asks can be met: the second value completes the first word, after which 33 of its bits come, and the second, after which 1
+-- comes. What is held above the first value's 25 bits does not count, and for the second word nothing that is held does.
+completes-both : Completes (25 ∷ 40 ∷ 31 ∷ []) (0x1ABCDEF ∷ 0xFEDCBA9876 ∷ 0x12345678 ∷ []) 1 0xF9ABCDEF 33
+    × Completes (25 ∷ 40 ∷ 31 ∷ []) (0x1ABCDEF ∷ 0xFEDCBA9876 ∷ 0x12345678 ∷ []) 1 0xF9ABCDEF 1
+unfolding bits
+completes-both = (
+  record { fitting = refl; small = refl; there = omega arith; within = omega arith; above = refl },
+  record { fitting = refl; small = refl; there = omega arith; within = omega arith; above = refl },
+)
 
 -- Nothing but 0 fits no bits, and there are as many values as widths.
 no-bits : fit (0 ∷ []) (1 ∷ []) ≡ false

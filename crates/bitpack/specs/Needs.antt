@@ -13,7 +13,7 @@ abbrev pub narrow : ℕ → List ℕ → Bool
 narrow most [] = true
 narrow most (w ∷ ws) = leb w most && narrow most ws
 
--- "fields of 1 to 40 bits": the most that a width may be..
+-- "fields of 1 to 40 bits": the most that a width may be.
 abbrev pub mostBits : ℕ
 mostBits = 40
 
@@ -29,8 +29,8 @@ pub record Unpacks (ws : List ℕ) (k places : ℕ) : Type 0 where
   pub whole : total ws ≡ 8 * k
   pub small : narrow mostBits ws ≡ true
 
--- Value i completes a word, and its `last` bits come after that word. The value's other bits are the word's lowest (the lowest 32 of them, where they are
--- more); the bits above them, if any, stand before the value, and are the lowest that are held.
+-- Value i completes a word: `last` of its bits come after the word, and the others are the word's lowest bits (the lowest 32 of them, where they are
+-- more). The bits of the word above those, if any, stand before value i; they are the lowest bits of `held`.
 pub record Completes (ws vs : List ℕ) (i held last : ℕ) : Type 0 where
   pub fitting : fit ws vs ≡ true
   pub small : narrow mostBits ws ≡ true

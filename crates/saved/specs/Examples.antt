@@ -6,7 +6,7 @@ use mathlib.Core.List.{List, [], _∷_, _++_, map}
 use lib.ListN.{take, drop, set, replicate}
 use Rattle.text.specs.Questions.{refused}
 use Rattle.bitpack.specs.Bits.{bits}
-use Rattle.bitpack.specs.Packed.{total, bytesOf, numberOf}
+use Rattle.bitpack.specs.Packed.{total, packed, bytesOf, numberOf}
 use Rattle.bitpack.specs.Words.{wordOf}
 use Rattle.isa.specs.Registers.{ioBits}
 use Rattle.machine.specs.declared.Record.{Record}
@@ -53,7 +53,8 @@ fresh-bytes : savedBytes freshRecord ≡ 1 ∷ replicate 90 0
 unfolding savedBytes fieldsOf widths ioBits bytesOf bits
 fresh-bytes = refl
 
--- A record in which no two fields can be exchanged unseen. Its bytes were packed by a program that shares nothing with this one.
+-- A record in which no two fields but those of one bit (`one-bits`) can be exchanged unseen. Its bytes were packed by a program that shares nothing
+-- with this one.
 busy : Record
 busy =
     record {
@@ -163,3 +164,9 @@ io-registers : map (λ p. isSound (withIoRegister p)) ((15, 127) ∷ (15, 128) �
     ≡ true ∷ false ∷ true ∷ false ∷ true ∷ false ∷ false ∷ false ∷ false ∷ []
 unfolding withIoRegister isSound fieldsOf widths ioBits
 io-registers = refl
+
+-- Each I/O register of one bit, set alone, beside the edition: its place by hand from the order and widths of document 01, counted from the low end.
+one-bits : map (λ (n : ℕ). packed widths (fieldsOf (withIoRegister (n, 1)))) (0 ∷ 1 ∷ 2 ∷ 3 ∷ 4 ∷ 5 ∷ 11 ∷ 17 ∷ [])
+    ≡ map (λ (p : ℕ). 2 ^ 720 + 2 ^ p) (236 ∷ 235 ∷ 234 ∷ 233 ∷ 232 ∷ 231 ∷ 110 ∷ 24 ∷ [])
+unfolding withIoRegister fieldsOf widths ioBits
+one-bits = refl

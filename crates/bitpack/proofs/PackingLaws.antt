@@ -22,6 +22,7 @@ use Rattle.bitpack.specs.Needs.{Packs, Completes}
 use Rattle.bitpack.proofs.BitLaws.{bits-lt, bits-join, bits-low, bits-lowest, shifted-low}
 use Rattle.bitpack.proofs.PackLaws.{narrow-at, total-drop, value-bits}
 use Rattle.bitpack.proofs.ByteLaws.{length-bytes, bytes-append, bytes-low}
+use Rattle.bitpack.proofs.WordLaws.{word-place}
 
 -- i values went in and k words came out; `acc` ends with the `have` bits between, fewer than a word has.
 pub record Packing (ws vs out₀ out : List ℕ) (i k acc have : ℕ) : Type 0 where
@@ -60,10 +61,8 @@ word-more n rest k out₀ out out′ before here =
 word-out : (ws vs : List ℕ) (rest k : ℕ) (out₀ out out′ : List ℕ) → rest + 32 * suc k ≡ total ws
     → out ≡ put out₀ 0 (bytesOf (4 * k) (packed ws vs / 2 ^ (rest + 32))) → out′ ≡ put out (4 * k) (bytesOf 4 (wordOf ws vs k))
     → out′ ≡ put out₀ 0 (bytesOf (4 * (k + 1)) (packed ws vs / 2 ^ rest))
-unfolding wordOf
 word-out ws vs rest k out₀ out out′ end before here =
-    let lo : total ws - 32 * suc k ≡ rest = omega arith in
-    word-more (packed ws vs) rest k out₀ out out′ before (here ∙ ap (λ (x : ℕ). put out (4 * k) (bytesOf 4 (bits (packed ws vs) x 32))) lo)
+    word-more (packed ws vs) rest k out₀ out out′ before (here ∙ ap (λ (x : ℕ). put out (4 * k) (bytesOf 4 x)) (sym (word-place ws vs k rest (omega arith))))
 
 module _ {ws vs out₀ out : List ℕ} {i k acc have : ℕ} (p : Packs ws vs (length out₀)) (s : Packing ws vs out₀ out i k acc have) where
   -- There are as many places as before.

@@ -22,30 +22,30 @@ use Rattle.bitpack.proofs.ByteLaws.{length-bytes, bytes-append, bytes-l
 
 -- ---- words made
 
--- The bits held and below them the a bits x, of which 32 remain: b that are held and x, or 32 of x where it has more.
-joined : (n lo a b held x : ℕ) → a < 64 → b ≡ 32 - a → held % 2 ^ b ≡ bits n (lo + a) b → x ≡ bits n lo a
-    → (held * 2 ^ a + x) % 2 ^ 64 % 2 ^ 32 ≡ bits n lo 32
-joined n lo a b held x small eb eh ex = go (leb a 32) refl
+-- The bits held and below them the a bits x, of which `size` remain: b that are held and x, or `size` of x where it has more.
+joined : (n lo size a b held x : ℕ) → size ≤ 64 → a < 64 → b ≡ size - a → held % 2 ^ b ≡ bits n (lo + a) b → x ≡ bits n lo a
+    → (held * 2 ^ a + x) % 2 ^ 64 % 2 ^ size ≡ bits n lo size
+joined n lo size a b held x room small eb eh ex = go (leb a size) refl
   where
     below : x < 2 ^ a
     below = rw ex (bits-lt n lo a)
 
-    go : (t : Bool) → leb a 32 ≡ t → (held * 2 ^ a + x) % 2 ^ 64 % 2 ^ 32 ≡ bits n lo 32
+    go : (t : Bool) → leb a size ≡ t → (held * 2 ^ a + x) % 2 ^ 64 % 2 ^ size ≡ bits n lo size
     go true e =
-        let most = leb-true a 32 e in
-        let all : b + a ≡ 32 = omega arith in
+        let most = leb-true a size e in
+        let all : b + a ≡ size = omega arith in
         (rw all at (shifted-low held b a x (omega arith) below))
         ∙ ap₂ (λ (y z : ℕ). y * 2 ^ a + z) eh ex
         ∙ bits-join n lo b a
         ∙ ap (bits n lo) all
     go false e =
-        let more = leb-false a 32 e in
-        let all : (a - 32) + 32 ≡ a = omega arith in
+        let more = leb-false a size e in
+        let all : (a - size) + size ≡ a = omega arith in
         let y = (held * 2 ^ a + x) % 2 ^ 64 in
         let whole : y % 2 ^ a ≡ x = (rw (zero-add a, mod-one held, zero-mul (2 ^ a), zero-add x) at (shifted-low held 0 a x (omega arith) below)) in
-        sym (rw all at (mod-mod-pow y (a - 32) 32))
-        ∙ ap (λ (z : ℕ). z % 2 ^ 32) (whole ∙ ex)
-        ∙ (rw all at (bits-low n lo (a - 32) 32))
+        sym (rw all at (mod-mod-pow y (a - size) size))
+        ∙ ap (λ (z : ℕ). z % 2 ^ size) (whole ∙ ex)
+        ∙ (rw all at (bits-low n lo (a - size) size))
 
 -- The four bytes of word k are those from 4 * k on.
 pub word-bytes : (ws vs : List ℕ) (k n : ℕ) → total ws ≡ 8 * n → 4 * k + 4 ≤ n → take 4 (drop (4 * k) (bytesOf n (packed ws vs))) ≡ bytesOf 4 (wordOf ws vs k)
@@ -84,7 +84,7 @@ word-is {ws} {vs} {i} {held} {last} p w v x hw hv hx =
     let first : v / 2 ^ last ≡ bits n (last + rest) (w - last) =
     ap (λ (y : ℕ). y / 2 ^ last) value ∙ bits-high n rest (w - last) last ∙ ap (λ (lo : ℕ). bits n lo (w - last)) (add-comm rest last) in
     let begins : held % 2 ^ (32 - (w - last)) ≡ bits n (last + rest + (w - last)) (32 - (w - last)) = rw (← above, hw) (p .above) in
-    ap (λ (y : ℕ). y % 2 ^ 32) hx ∙ joined n (last + rest) (w - last) _ held _ (omega arith) refl begins first
+    ap (λ (y : ℕ). y % 2 ^ 32) hx ∙ joined n (last + rest) 32 (w - last) _ held _ (omega arith) (omega arith) refl begins first
 
 -- It is word k where so many bits stand before its end.
 pub word-place : (ws vs : List ℕ) (k after : ℕ) → 32 * suc k + after ≡ total ws → bits (packed ws vs) after 32 ≡ wordOf ws vs k

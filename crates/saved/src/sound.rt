@@ -36,10 +36,9 @@ pub fn is_sound_with(r: Record, f: [u64; 42]) -> bool
     ensures { λ b. ⌜ b ≡ isSound r ⌝ }
 {
     let widths = WIDTHS;
-    if !all_fit(&widths[..FIRST_REGISTER], &f[..FIRST_REGISTER]) {
-        return false;
-    }
-    if !all_fit(&widths[FIRST_IO..], &f[FIRST_IO..]) {
+    let scalars = all_fit(&widths[..FIRST_REGISTER], &f[..FIRST_REGISTER]);
+    let io = all_fit(&widths[FIRST_IO..], &f[FIRST_IO..]);
+    if !(scalars & io) {
         return false;
     }
     is_possible(r)

@@ -38,22 +38,20 @@ scalars-are : (c : tie.After-all-fit) → fit scalarWidths (scalarsOf (c .before
 unfolding fieldsOf
 scalars-are c = sym (c .all-fit .ensures ∙ ap (λ (f : List ℕ). fit scalarWidths (take 6 f)) (c .before .before .before .pre))
 
--- .. and the I/O registers, of which the second is.
-io-is : (c : tie.After-all-fit2) → fit (map fieldBits ioNumbers) (c .before .before .before .before .before .before .before .before .before .args .r .io) ≡ c .all-fit2 .result
+-- .. and the I/O registers, of which the second is, ..
+io-is : (c : tie.After-all-fit2) → fit (map fieldBits ioNumbers) (c .before .before .before .before .before .before .before .before .args .r .io) ≡ c .all-fit2 .result
 unfolding fieldsOf ioBits
 io-is c =
-    let s = c .before .before .before .before .before .before .before .before .before in
+    let s = c .before .before .before .before .before .before .before .before in
     let r = s .args .r in
     sym
     (c .all-fit2 .ensures
     ∙ ap (λ (f : List ℕ). fit (map fieldBits ioNumbers) (take 23 (drop 19 f))) (s .pre)
     ∙ ap (λ (f : List ℕ). fit (map fieldBits ioNumbers) f) (rest-is (r .regs) (r .io) (regs-13 s) (io-23 s)))
 
--- After the first test all depends on the second.
-both-are : (c : tie.After-all-fit2) → fit widths (fieldsOf (c .before .before .before .before .before .before .before .before .before .args .r)) ≡ c .all-fit2 .result
-both-are c =
-    let a = c .before .before .before .before .before in
-    parts-are (a .before .before .before .before) ∙ rw (scalars-are (a .before), not-false (a .before .all-fit .result) (a .if1 .left)) (io-is c)
+-- .. so both tests together.
+both-are : (c : tie.After-all-fit2) → fit widths (fieldsOf (c .before .before .before .before .before .before .before .before .args .r)) ≡ (c .before .before .before .before .before .all-fit .result && c .all-fit2 .result)
+both-are c = parts-are (c .before .before .before .before .before .before .before .before) ∙ rw (scalars-are (c .before .before .before .before .before), io-is c)
 
 array-share-prefix-widths : tie.Need-array-share-prefix-widths
 array-share-prefix-widths c = search needs
@@ -72,11 +70,6 @@ slice-aggregate-all-fit-2 c =
 
 all-fit-requires : tie.Need-all-fit-requires
 all-fit-requires c κs = search needs
-
-returns : tie.Need-returns
-returns c =
-    let s = c .before .before .before .before in
-    sym (unfit-unsound (s .args .r) (parts-are s ∙ rw (scalars-are (c .before), not-true (c .before .all-fit .result) (c .if1 .taken))))
 
 sub-all-fit : tie.Need-sub-all-fit
 sub-all-fit c = search needs
@@ -99,16 +92,14 @@ part-all-fit-end-2 c = search needs
 all-fit-requires-2 : tie.Need-all-fit-requires-2
 all-fit-requires-2 c κs = search needs
 
-returns-2 : tie.Need-returns-2
-returns-2 c =
-    let s = c .before .before .before .before .before .before .before .before .before .before in
-    sym (unfit-unsound (s .args .r) (both-are (c .before) ∙ not-true (c .before .all-fit2 .result) (c .if2 .taken)))
+returns : tie.Need-returns
+returns c = sym (unfit-unsound (c .before .before .before .before .before .before .before .before .before .args .r) (both-are (c .before) ∙ not-true _ (c .if1 .taken)))
 
 is-possible-requires : tie.Need-is-possible-requires
-is-possible-requires c κs = both-are (c .before) ∙ not-false (c .before .all-fit2 .result) (c .if2 .left)
+is-possible-requires c κs = both-are (c .before) ∙ not-false _ (c .if1 .left)
 
-returns-3 : tie.Need-returns-3
-returns-3 c = search needs
+returns-2 : tie.Need-returns-2
+returns-2 c = search needs
 
 pub is-sound-with-spec : {M : Type 1} → statement M
 is-sound-with-spec =
@@ -119,7 +110,6 @@ is-sound-with-spec =
     array-share-prefix-f
     slice-aggregate-all-fit-2
     all-fit-requires
-    returns
     sub-all-fit
     part-all-fit-start
     part-all-fit-end
@@ -127,6 +117,6 @@ is-sound-with-spec =
     part-all-fit-start-2
     part-all-fit-end-2
     all-fit-requires-2
-    returns-2
+    returns
     is-possible-requires
-    returns-3)
+    returns-2)

@@ -61,6 +61,7 @@ typedef struct {
 
 typedef struct {
     int sign;   // 0 no number, 1 without a sign, -1 with a minus
+    unsigned base;
     uint64_t v;
 } Number;
 
@@ -71,14 +72,17 @@ static Number read_number(Token t) {
     if (*p == '-') sign = -1, p++, n--;
     else if (n > 2 && p[0] == '0' && p[1] == 'x') base = 16, most = 8, p += 2, n -= 2;
     else if (n > 2 && p[0] == '0' && p[1] == 'b') base = 2, most = 32, p += 2, n -= 2;
-    if (n < 1 || n > most) return (Number){0, 0};
+    if (n < 1 || n > most) return (Number){0, 0, 0};
     uint64_t v = 0;
     for (unsigned i = 0; i < n; i++) {
-        if (digit_of[p[i]] >= base) return (Number){0, 0};
+        if (digit_of[p[i]] >= base) return (Number){0, 0, 0};
         v = v * base + digit_of[p[i]];
     }
-    return (Number){sign, v};
+    return (Number){sign, base, v};
 }
+
+// The greatest value, without its sign, of an immediate with the sign and base of this number.
+static uint64_t greatest(Number n) { return n.sign < 0 ? 2048 : n.base == 10 ? 2047 : 4095; }
 
 static int alnum(const uint8_t *p, unsigned n) {
     for (unsigned i = 0; i < n; i++)
@@ -181,7 +185,7 @@ static uint32_t c_assemble(const uint8_t *source, size_t n, uint64_t *image, uin
         if (f == WRONG) return 3;
         int has_code = f == CODE || f == LABELLED, has_label = f == LABEL || f == LABELLED;
         const Token *o = t + (f == LABELLED);
-        Number a = {0, 0}, b = {0, 0};
+        Number a = {0, 0, 0}, b = {0, 0, 0};
         uint64_t w = 0;
         if (has_code) {
             int op = find_name(op_slot, ops, o[0].at, o[0].size);
@@ -193,8 +197,8 @@ static uint32_t c_assemble(const uint8_t *source, size_t n, uint64_t *image, uin
                 w = w << 4 | (uint64_t)r;
             }
             a = read_number(o[9]), b = read_number(o[11]);
-            if (a.sign && a.v > (a.sign < 0 ? 2048 : 4095)) return 5;
-            if (b.sign && b.v > (b.sign < 0 ? 2048 : 4095)) return 5;
+            if (a.sign && a.v > greatest(a)) return 5;
+            if (b.sign && b.v > greatest(b)) return 5;
         } else if (f == WORD) {
             a = read_number(t[1]), b = read_number(t[2]);
             if (a.v > (a.sign < 0 ? 0 : 4095)) return 5;
@@ -317,7 +321,7 @@ static void full_program(int labels) {
     for (int i = 0; i < WORDS; i++) {
         if (labels && i % 4 == 0) snprintf(line, sizeof line, "label%d:\n", i / 4), add(line);
         if (labels) snprintf(line, sizeof line, "add $t0, $t1, $t2, $s0, label%d, %d\n", i * 7 % 1024, i % 2048);
-        else snprintf(line, sizeof line, "%s %s, %s, %s, %s, %d, 0x%X\n", ops[i % 22], regs[i % 16], regs[i / 3 % 16], regs[i / 5 % 16], regs[i / 7 % 16], i % 6144 - 2048 > 4095 ? 0 : i % 6144 - 2048, i % 4096);
+        else snprintf(line, sizeof line, "%s %s, %s, %s, %s, %d, 0x%X\n", ops[i % 22], regs[i % 16], regs[i / 3 % 16], regs[i / 5 % 16], regs[i / 7 % 16], i - 2048, i);
         add(line);
     }
 }
@@ -377,10 +381,10 @@ static uint32_t draw(uint32_t n) {
 
 // A random text of some lines: each number is out of range, each label repeated or unknown, each name wrong now and then; then some bytes are damaged now and then.
 static const char *a_number(int rare) {
-    static const char *const good[] = {"0", "-1", "4095", "-2048", "0xFFF", "0x7ff", "-0", "00012", "2047", "0b1010", "0b111111111111", "0b00000000000000000000000000000001"};
-    static const char *const wide[] = {"2147483648", "-2147483648", "4294967295", "0b11111111111111111111111111111111", "4096", "-2049", "0x1000", "0b1000000000000", "4294967296", "-2147483649",
+    static const char *const good[] = {"0", "-1", "0x800", "-2048", "0xFFF", "0x7ff", "-0", "00012", "2047", "0b1010", "0b111111111111", "0b00000000000000000000000000000001"};
+    static const char *const wide[] = {"2147483648", "-2147483648", "4294967295", "0b11111111111111111111111111111111", "2048", "4095", "4096", "-2049", "0x1000", "0b1000000000000", "4294967296", "-2147483649",
                                        "0X1", "12345678901", "0x123456789", "+1", "0b", "0b2", "0B1", "-0b1", "0b000000000000000000000000000000001"};
-    return draw(60) ? good[draw(12)] : wide[draw(rare ? 19 : 4)];
+    return draw(60) ? good[draw(12)] : wide[draw(rare ? 21 : 6)];
 }
 
 static const char *an_immediate(char *a, uint32_t labels) {

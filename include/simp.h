@@ -7,7 +7,8 @@
  *    2  a line of assembly text has more than 500 bytes, or a byte that is no blank (space, tab, CR) and not from 33 to 126
  *    3  a line has none of the forms of assembly text
  *    4  an op or a register is unknown
- *    5  a number is out of range
+ *    5  a number is out of range: an immediate runs from -2048 to 2047 in decimal and to 4095 in hexadecimal or binary, a .word address from 0 to
+ *       4095, its data from -2^31 to 2^32 - 1
  *    6  a label is defined on an earlier line
  *    7  a label that is used is defined on no line
  *    8  no address is left (above 4095), or the label is not among the first 1,024

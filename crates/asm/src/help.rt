@@ -104,7 +104,7 @@ fn put_parts(text: &mut [u8], at: usize) -> usize
     let label_at = put_if_room(
         text,
         numbers_at,
-        b"  imm1 imm2  a number from -2048 to 4095, or a label\n",
+        b"  imm1 imm2  a number from -2048 to 2047 (0x and 0b: to 0xFFF), or a label\n",
     );
     let number_at = put_if_room(
         text,

@@ -1,4 +1,4 @@
--- Texts assembled, computed: what good ones give, and each refusal; the decided open points A1 to A22 and B1 to B5.
+-- Texts assembled, computed: what good ones give, and each refusal; the decided open points A1 to A22, B1 to B5 and C1 to C5.
 use Prim.Native.Nat.{ℕ, zero, suc}
 use Prim.Native.String.{String}
 use mathlib.Core.Path.{_≡_, refl}
@@ -104,7 +104,7 @@ registers = refl
 
 -- "stored modulo 4096": -1 is FFF, -2048 is 800. A8: -0 is 0, and 010 is ten.
 immediates : map (λ (s : String). word (bytes "add $zero, $zero, $zero, $zero, " ++ bytes s))
-    ("-1, -2048" ∷ "4095, 0xfFf" ∷ "2047, 2048" ∷ "-0, 010" ∷ [])
+    ("-1, -2048" ∷ "0xFFF, 0xfFf" ∷ "2047, 0x800" ∷ "-0, 010" ∷ [])
     ≡ 0x000000FFF800 ∷ 0x000000FFFFFF ∷ 0x0000007FF800 ∷ 0x00000000000A ∷ []
 unfolding word
 immediates = refl
@@ -249,13 +249,38 @@ unknown-registers : map (λ (s : List ℕ). outcomeOf (bytes "add " ++ s ++ byte
 unfolding outcomeOf
 unknown-registers = refl
 
--- 5: "Immediates run from -2048 to 4095". A16: 0xFFFFF800 is not -2048. A9: ten digits are 5, eleven 3.
+-- 5: "Immediates run from -2048 to 4095", decimals to 2047. A16: 0xFFFFF800 is not -2048. A9: ten digits are 5, eleven 3.
 ranges : map (λ (s : String). outcomeOf (bytes "add $zero, $zero, $zero, $zero, " ++ bytes s))
-    ("-2048, 4095" ∷ "4095, -2048" ∷ "0xFFF, 0x0" ∷ "-2049, 0" ∷ "0, -2049" ∷ "4096, 0" ∷ "0, 4096" ∷ "0x1000, 0" ∷ "0xFFFFF800, 0" ∷ "9999999999, 0"
+    ("-2048, 2047" ∷ "2047, -2048" ∷ "0xFFF, 0x0" ∷ "-2049, 0" ∷ "0, -2049" ∷ "4096, 0" ∷ "0, 4096" ∷ "0x1000, 0" ∷ "0xFFFFF800, 0" ∷ "9999999999, 0"
     ∷ "99999999999, 0" ∷ [])
     ≡ replicate 3 (accepted 0) ++ replicate 7 (refused 5 1) ++ (refused 3 1 ∷ [])
 unfolding outcomeOf
 ranges = refl
+
+-- 5: document 02 (iv), "A decimal immediate from 2048 to 4095 is now refused". C1: with leading zeros too. C3: as a jump's target, and where nothing reads it.
+big-decimals : map outcome
+    ("add $zero, $zero, $zero, $zero, 2048, 0" ∷ "add $zero, $zero, $zero, $zero, 0, 2048" ∷ "add $zero, $zero, $zero, $zero, 4095, 0"
+    ∷ "add $zero, $zero, $zero, $zero, 0, 4095" ∷ "add $zero, $zero, $zero, $zero, 0000002048, 0" ∷ "beq $zero, $zero, $zero, $imm1, 3000, 0"
+    ∷ "halt $zero, $zero, $zero, $zero, 0, 3000" ∷ [])
+    ≡ replicate 7 (refused 5 1)
+unfolding outcome
+big-decimals = refl
+
+-- C1: decimals from -2048 to 2047 stay. "Hexadecimal, binary and labels keep the wider range." C2: address and data of `.word` keep theirs.
+not-too-big : map outcome
+    ("add $zero, $zero, $zero, $zero, 0000002047, -2048" ∷ "add $zero, $zero, $zero, $zero, -0, -1" ∷ "add $zero, $zero, $zero, $zero, 0x800, 0xFFF"
+    ∷ "add $zero, $zero, $zero, $zero, 0b100000000000, 0b111111111111" ∷ ".word 2048 3000" ∷ ".word 4095 4095" ∷ [])
+    ≡ replicate 6 (accepted 0)
+unfolding outcome
+not-too-big = refl
+
+-- C5: 4 comes before it, 6 and 7 after it (8 too: `no-address`); a label that is defined on such a line counts for 7.
+big-decimals-in-order : map outcome
+    ("foo $zero, $zero, $zero, $zero, 4095, 0\n" ∷ "L:\nL: add $zero, $zero, $zero, $zero, 4095, 0\n" ∷ "add $zero, $zero, $zero, $zero, 4095, M\n"
+    ∷ "add $zero, $zero, $zero, $zero, L, 0\nL: add $zero, $zero, $zero, $zero, 4095, 0\n" ∷ [])
+    ≡ refused 4 1 ∷ refused 5 2 ∷ refused 5 1 ∷ refused 5 2 ∷ []
+unfolding outcome
+big-decimals-in-order = refl
 
 -- 5: ".word addresses 0 to 4095, data -2^31 to 2^32-1".
 word-ranges : map outcome
@@ -333,10 +358,10 @@ last-address : map (asked (instructions 4095)) ("halt $zero, $zero, $zero, $zero
 unfolding asked instructions
 last-address = refl
 
--- .. and after 4,096. A19: empty lines, comments and `.word` may follow. 3, 4, 5 and 7 come before 8.
+-- .. and after 4,096. A19: empty lines, comments and `.word` may follow. 3, 4, 5 (C5) and 7 come before 8.
 no-address : map (asked (instructions 4096))
     ("halt $zero, $zero, $zero, $zero, 0, 0" ∷ "L:" ∷ "L: halt $zero, $zero, $zero, $zero, 0, 0" ∷ "" ∷ "# c" ∷ ".word 0 1" ∷ "halt"
-    ∷ "foo $zero, $zero, $zero, $zero, 0, 0" ∷ "halt $zero, $zero, $zero, $zero, 4096, 0" ∷ "halt $zero, $zero, $zero, $zero, L, 0" ∷ [])
+    ∷ "foo $zero, $zero, $zero, $zero, 0, 0" ∷ "halt $zero, $zero, $zero, $zero, 4095, 0" ∷ "halt $zero, $zero, $zero, $zero, L, 0" ∷ [])
     ≡ refused 8 0 ∷ refused 8 0 ∷ refused 8 0 ∷ accepted 0 ∷ accepted 0 ∷ accepted 0 ∷ refused 3 0 ∷ refused 4 0 ∷ refused 5 0 ∷ refused 7 0 ∷ []
 unfolding asked instructions
 no-address = refl
@@ -367,3 +392,8 @@ used-1025th = refl
 used-at-4096 : askedFirst (instructions 4095 ++ (bytes "M:" ∷ [])) "halt $zero, $zero, $zero, $zero, M, 0" ≡ accepted 0
 unfolding askedFirst instructions
 used-at-4096 = refl
+
+-- C4: 5 is asked of no label: this one is at 2048.
+used-at-2048 : askedFirst (instructions 2047 ++ (bytes "M:" ∷ [])) "halt $zero, $zero, $zero, $zero, M, 0" ≡ accepted 0
+unfolding askedFirst instructions
+used-at-2048 = refl

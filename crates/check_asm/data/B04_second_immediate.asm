@@ -1,2 +1,2 @@
-# immediates run to 4095
+# binary immediates run to 4095
 add $v0, $a0, $a1, $a2, 1, 0b1000000000000

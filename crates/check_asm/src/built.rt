@@ -34,7 +34,7 @@ fn try_full_image() {
     );
 }
 
-// A18, A19: a label or an instruction after 4,096 instructions.
+// A18, A19, C5: a label or an instruction after 4,096 instructions.
 fn try_past_full_image() {
     let halt = b"halt $zero,$zero,$zero,$zero,0,0\n";
     let uses = b"halt $zero,$zero,$zero,$zero,L,0\n";
@@ -49,6 +49,13 @@ fn try_past_full_image() {
         b"foo $zero,$zero,$zero,$zero,0,0\n",
     );
     try_repeated(b"A19_7_before_8", b"", halt, 4096, uses);
+    try_repeated(
+        b"C05_5_before_8",
+        b"",
+        halt,
+        4096,
+        b"halt $zero,$zero,$zero,$zero,4095,0\n",
+    );
 }
 
 // A21: 16,384 lines of 16 bytes are 262,144 bytes.

@@ -1,4 +1,4 @@
-// The assembler, tried by running: the decided open points on assembly text (docs/DECISIONS.md, A1 to A22, B1 to B5), the examples of documents 01 and 003, the four
+// The assembler, tried by running: the decided open points on assembly text (docs/DECISIONS.md, A1 to A22, B1 to B5, C1 to C5), the examples of documents 01 and 003, the four
 // course programs and the order of the questions. First the files that its arguments name, then large texts that are built here. The image and the data
 // memory hold a pattern before.
 //

@@ -1,1 +1,1 @@
-add $t0, $t0, $imm1, $zero, 4096, 0
+add $t0, $t0, $imm1, $zero, 4095, 0

@@ -11,7 +11,7 @@ use Rattle.text.specs.Bytes.{bytes}
 use Rattle.text.specs.Lines.{LF}
 use Rattle.text.specs.Numerals.{digitCount, decimal}
 use Rattle.text.specs.Place.{put}
-use Rattle.console.specs.Refusals.{sentence, sentences, hasLine, counted, placeText, refusalLine}
+use Rattle.console.specs.Refusals.{sentence, sentences, longest, hasLine, counted, placeText, refusalLine}
 use Rattle.text.proofs.DecimalLaws.{length-decimal, count-le}
 use Rattle.text.proofs.PieceLaws.{more}
 use Rattle.text.proofs.PutLaws.{put-one}
@@ -43,13 +43,13 @@ unfolding sentence sentences
 none-above n h = List·getD-eq-default sentences [] h
 
 -- The table's rows are as long, by a test computed over it.
-pub rows-length : (rows : List (List ℕ)) (d : List ℕ) → allBelow (λ k. eqb (length (getD rows k d)) 111) 20 ≡ true → (n : ℕ) → n < 20 → length (getD rows n d) ≡ 111
-rows-length rows d e n h = eqb-true _ _ (below (λ k. eqb (length (getD rows k d)) 111) 20 e n h)
+pub rows-length : (rows : List (List ℕ)) (d : List ℕ) → allBelow (λ k. eqb (length (getD rows k d)) longest) 20 ≡ true → (n : ℕ) → n < 20 → length (getD rows n d) ≡ longest
+rows-length rows d e n h = eqb-true _ _ (below (λ k. eqb (length (getD rows k d)) longest) 20 e n h)
 
--- The longest is that of number 9.
-pub sentence-most : (n : ℕ) → n < 20 → length (sentence n) ≤ 111
+-- No sentence has more bytes than a row.
+pub sentence-most : (n : ℕ) → n < 20 → length (sentence n) ≤ longest
 unfolding sentence
-sentence-most = most-rule (λ k. length (sentence k)) 111 20 refl
+sentence-most = most-rule (λ k. length (sentence k)) longest 20 refl
 
 -- ---- the place
 

@@ -20,8 +20,8 @@ sentences =
     ∷ bytes "the line has a wrong form (asm without arguments shows the forms of lines)"
     -- "Known op and registers? 4"
     ∷ bytes "the operation or a register is unknown"
-    -- "Numbers in range? 5"
-    ∷ bytes "a number is out of range (immediates -2048 to 4095, addresses 0 to 4095, data -2147483648 to 4294967295)"
+    -- "Numbers in range? 5"; document 02 (iv): "Students write 4095 and get -1 in a register."
+    ∷ bytes "a number is out of range (immediates -2048 to 2047, with 0x or 0b to 0xFFF: 4095 as a decimal would be -1, write 0xFFF or -1; .word addresses 0 to 4095, data -2147483648 to 4294967295)"
     -- "Label not defined on an earlier line? 6"
     ∷ bytes "the label is defined on an earlier line too"
     -- "Used labels defined on some line that passes 2 and 3? 7"
@@ -55,6 +55,10 @@ sentences =
 unfoldable pub sentence : ℕ → List ℕ
 unfolding sentences
 sentence n = getD sentences n []
+
+-- The width of the code's table of sentences: none has more bytes.
+abbrev pub longest : ℕ
+longest = 184
 
 -- The numbers whose place is a line: 2 to 12, and document 02's 17 to 19.
 abbrev pub isOfLine : ℕ → Bool

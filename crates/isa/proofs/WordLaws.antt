@@ -1,12 +1,16 @@
 -- Decoding and encoding undo each other on 48 bits; the sign of an immediate. Assumes nothing.
-use Prim.Native.Nat.{ℕ, _+_, _-_, _/_, _%_, _^_, _<_}
+use Prim.Native.Nat.{ℕ, suc, _+_, _-_, _/_, _%_, _^_, _≤_, _<_}
 use mathlib.Core.Path.{_≡_, refl, sym}
 use mathlib.Core.Bool.{Bool, true, false, cond}
 use native.Mathlib.Omega.{arith}
 use native.Mathlib.Nat.{add-assoc}
 use lib.Pow.{mod-pow-add}
 use lib.Dec.{ltb}
-use borrow.Author.Tests.{ltb-true, ltb-false}
+use lib.IntN.{pos, negsuc}
+use mir.Syntax.{w32}
+use mir.Val.{toZ}
+use mir.Facts.{toZ-pos, toZ-neg}
+use borrow.Author.Tests.{lt-ltb, le-ltb, ltb-true, ltb-false}
 use Rattle.isa.specs.declared.Fields.{Fields}
 use Rattle.isa.specs.Word.{fieldsOf, wordOf, Fitting, signExtended}
 
@@ -77,3 +81,13 @@ sign-wraps i r h k e = go (ltb i (2 ^ 11)) refl
     go : (t : Bool) → ltb i (2 ^ 11) ≡ t → r ≡ cond t i (2 ^ 32 - 2 ^ 12 + i)
     go true low = let small = ltb-true i (2 ^ 11) low in omega arith
     go false high = let large = ltb-false i (2 ^ 11) high in omega arith
+
+-- Read as a signed number, an immediate below 2^11 is itself, ..
+pub reads-plain : (i : ℕ) → i < 2 ^ 11 → toZ w32 (signExtended i) ≡ pos i
+reads-plain i h = rw (lt-ltb i (2 ^ 11) h) (toZ-pos w32 (omega arith))
+
+-- .. and one from there on is what it lacks to 2^12, with a minus.
+pub reads-negative : (i : ℕ) → 2 ^ 11 ≤ i → i < 2 ^ 12 → toZ w32 (signExtended i) ≡ negsuc (2 ^ 12 - suc i)
+reads-negative i low high =
+    let bits : 2 ^ 32 - 2 ^ 12 + i ≡ 2 ^ 32 - suc (2 ^ 12 - suc i) = omega arith in
+    rw (le-ltb i (2 ^ 11) low, bits) (toZ-neg w32 (2 ^ 12 - suc i) (omega arith))

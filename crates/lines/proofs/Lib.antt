@@ -2,3 +2,4 @@
 pub mod FormLaws
 pub mod FirstLaws
 pub mod NameLaws
+pub mod RangeLaws

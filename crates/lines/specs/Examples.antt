@@ -17,7 +17,7 @@ use Rattle.source.specs.Shapes.{fits, matches, firstShape}
 use Rattle.lines.specs.declared.Form.{Form}
 use Rattle.lines.specs.declared.Form.the-variants.{Nothing, Label, Code, Labelled, Word, Wrong}
 use Rattle.lines.specs.Line.{shapes, formOf}
-use Rattle.lines.specs.Ranges.{isWithin, modulo}
+use Rattle.lines.specs.Ranges.{isWithin, isImmediate, modulo}
 
 unfoldable formOfBytes : List ℕ → Form
 unfolding formOf shapes firstShape matches fits isName isRegister isDefinition number same tokensFrom areRightBytes areAll allDigits value
@@ -131,6 +131,12 @@ longer-numbers = refl
 within : map (isWithin 1 2 3) (Decimal 2 ∷ Decimal 3 ∷ Minus 1 ∷ Minus 2 ∷ Unsigned 3 ∷ Unsigned 4 ∷ NoNumber ∷ [])
     ≡ true ∷ false ∷ true ∷ false ∷ true ∷ false ∷ true ∷ []
 within = refl
+
+-- Immediates: decimals from -2048 to 2047, the other forms to 4095.
+immediates : map isImmediate
+    (Decimal 2047 ∷ Decimal 2048 ∷ Decimal 4095 ∷ Minus 2048 ∷ Minus 2049 ∷ Unsigned 2048 ∷ Unsigned 4095 ∷ Unsigned 4096 ∷ NoNumber ∷ [])
+    ≡ true ∷ false ∷ false ∷ true ∷ false ∷ true ∷ true ∷ false ∷ true ∷ []
+immediates = refl
 
 -- "stored modulo 4096", here 16.
 remainders : map (modulo 16) (Decimal 17 ∷ Minus 1 ∷ Minus 16 ∷ Unsigned 18 ∷ NoNumber ∷ []) ≡ 1 ∷ 15 ∷ 0 ∷ 2 ∷ 0 ∷ []

@@ -11,26 +11,17 @@ use lib.ListN.{length, length-append}
 use lib.Signed.{mag, ltZ}
 use mir.Syntax.{w32}
 use mir.Val.{toZ, ofZ}
-use mir.Facts.{toZ-pos, toZ-neg, toZ-ofZ}
-use borrow.Author.Tests.{lt-ltb, le-ltb, ltb-true, ltb-false}
+use mir.Facts.{toZ-pos, toZ-ofZ}
+use borrow.Author.Tests.{le-ltb, ltb-true, ltb-false}
 use Rattle.text.specs.Bytes.{bytes}
 use Rattle.text.specs.Numerals.{digitCount, decimal}
 use Rattle.text.proofs.DecimalLaws.{length-decimal, count-le}
 use Rattle.isa.specs.Word.{signExtended}
+use Rattle.isa.proofs.WordLaws.{reads-plain, reads-negative}
 use Rattle.lister.specs.Listing.{signedDecimal}
 use Rattle.lister.specs.Sign.{signOf}
 
 -- ---- an immediate, read as a signed number
-
--- Below 2^11 an immediate is itself, ..
-reads-plain : (i : ℕ) → i < 2 ^ 11 → toZ w32 (signExtended i) ≡ pos i
-reads-plain i h = rw (lt-ltb i (2 ^ 11) h) (toZ-pos w32 (omega arith))
-
--- .. and from there on it is what lacks to 2^12, with a minus.
-reads-negative : (i : ℕ) → 2 ^ 11 ≤ i → i < 2 ^ 12 → toZ w32 (signExtended i) ≡ negsuc (2 ^ 12 - suc i)
-reads-negative i low high =
-    let bits : 2 ^ 32 - 2 ^ 12 + i ≡ 2 ^ 32 - suc (2 ^ 12 - suc i) = omega arith in
-    rw (le-ltb i (2 ^ 11) low, bits) (toZ-neg w32 (2 ^ 12 - suc i) (omega arith))
 
 -- z is the immediate i, read as a signed number.
 module _ (i : ℕ) (z : ℤ) (fits : i < 2 ^ 12) (e : z ≡ toZ w32 (signExtended i)) where

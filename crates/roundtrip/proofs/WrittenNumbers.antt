@@ -104,8 +104,9 @@ immediate-token i h = go (ltb i (2 ^ 11)) refl
   where
     go : (t : Bool) → ltb i (2 ^ 11) ≡ t → ImmediateToken i (cond t (decimal i) (bytes "-" ++ decimal (2 ^ 12 - i)))
     go true e =
+        let low = ltb-true i (2 ^ 11) e in
         let is = number-decimal i (omega arith) in
-        record { written = written-decimal i (omega arith); numeric = rw is; within = rw is (le-leb i 4095 (omega arith)); stored = rw is (omega arith) }
+        record { written = written-decimal i (omega arith); numeric = rw is; within = rw is (le-leb i 2047 (omega arith)); stored = rw is (omega arith) }
     go false e =
         let high = ltb-false i (2 ^ 11) e in
         let v = 2 ^ 12 - i in

@@ -25,10 +25,12 @@ ghost use Rattle.lines.specs.Names.{NameTable};
 ghost use Rattle.labels.specs.Tables.{LabelTable};
 ghost use Rattle.statements.specs.Reading.{ImmediateRead, StatementRead};
 
-// Immediates run from -2048 to 4095, of whatever form, and are stored modulo 4096.
+// Immediates run from -2048 to 2047 in decimal and to 4095 in the other forms, and are stored modulo 4096.
 const IMMEDIATE_BELOW: u64 = 2048;
 
-const IMMEDIATE_LAST: u64 = 4095;
+const IMMEDIATE_DECIMAL: u64 = 2047;
+
+const IMMEDIATE_OTHER: u64 = 4095;
 
 const IMMEDIATE_MODULUS: u64 = 4096;
 
@@ -162,7 +164,7 @@ fn read_immediate(
         return read_label(source, t, table, values, count);
     }
     Immediate {
-        inside: is_within(n, IMMEDIATE_BELOW, IMMEDIATE_LAST, IMMEDIATE_LAST),
+        inside: is_within(n, IMMEDIATE_BELOW, IMMEDIATE_DECIMAL, IMMEDIATE_OTHER),
         defined: true,
         value: modulo(n, IMMEDIATE_MODULUS) as u32,
     }

@@ -36,7 +36,7 @@ product =
 abbrev pub link : List ℕ
 link =
     0x00F100007000  -- add $ra, $imm1, $zero, $zero, 7, 0
-    ∷ 0x090001FFF000  -- beq $zero, $zero, $zero, $imm1, 4095, 0
+    ∷ 0x090001FFF000  -- beq $zero, $zero, $zero, $imm1, 0xFFF, 0
     ∷ replicate 4093 0
     ++ (0x0FF001123000  -- jal $ra, $zero, $zero, $imm1, 0x123, 0: at 4095
     ∷ [])
@@ -59,13 +59,13 @@ disk =
 
 abbrev pub buffer3968 : List ℕ
 buffer3968 =
-    0x140102010F80  -- out $zero, $imm1, $zero, $imm2, 16, 3968: diskbuffer = 3968
+    0x140102010F80  -- out $zero, $imm1, $zero, $imm2, 16, 0xF80: diskbuffer = 3968
     ∷ 0x14010200E001  -- out $zero, $imm1, $zero, $imm2, 14, 1: diskcmd = 1
     ∷ []
 
 abbrev pub buffer3969 : List ℕ
 buffer3969 =
-    0x140102010F81  -- out $zero, $imm1, $zero, $imm2, 16, 3969: diskbuffer = 3969
+    0x140102010F81  -- out $zero, $imm1, $zero, $imm2, 16, 0xF81: diskbuffer = 3969
     ∷ 0x14010200E001  -- out $zero, $imm1, $zero, $imm2, 14, 1: diskcmd = 1
     ∷ []
 

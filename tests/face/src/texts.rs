@@ -3,14 +3,14 @@
 use crate::random::Random;
 use reference::names::{OPS, REGISTERS};
 
-const IMMEDIATES: [&str; 12] = ["0", "1", "-1", "7", "2047", "4095", "-2048", "0xFFF", "0x7ff", "-0", "0000000012", "0x00000ABC"];
+const IMMEDIATES: [&str; 13] = ["0", "1", "-1", "7", "2047", "0000002047", "-2048", "0xFFF", "0x800", "0x7ff", "-0", "0000000012", "0x00000ABC"];
 const ADDRESSES: [&str; 5] = ["0", "1", "4095", "0xFFF", "-0"];
 const DATA: [&str; 9] = ["0", "-1", "5", "4294967295", "-2147483648", "0xFFFFFFFF", "0x80000000", "2147483647", "0xabcDEF01"];
-const NO_NUMBERS: [&str; 19] = [
-    "4096", "-2049", "0x1000", "4294967296", "-2147483649", "0X1", "12345678901", "0x123456789", "+1", "--1", "-0x1", "0x", "-", "1a", "0b1000000000000", "0b", "0B1", "-0b1", "0b1_0",
+const NO_NUMBERS: [&str; 23] = [
+    "2048", "0000002048", "3000", "4095", "4096", "-2049", "0x1000", "4294967296", "-2147483649", "0X1", "12345678901", "0x123456789", "+1", "--1", "-0x1", "0x", "-", "1a", "0b1000000000000", "0b", "0B1", "-0b1", "0b1_0",
 ];
 
-/// One of these numbers, or a binary one of up to so many digits; now and then no number, or one that is out of range.
+/// One of these numbers, or a binary one of up to so many digits; now and then no number, or one that is out of range at this place or at another.
 fn number(r: &mut Random, good: &[&'static str], bits: u64) -> String {
     if r.once_in(80) {
         r.one(&NO_NUMBERS).to_string()

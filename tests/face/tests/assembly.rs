@@ -10,7 +10,8 @@ fn told(r: Result<usize, reference::Refusal>) -> Told {
     }
 }
 
-fn compare(source: &[u8], words: usize, data: usize) {
+/// Both assemblers on one text; the number that they answer.
+fn compare(source: &[u8], words: usize, data: usize) -> u32 {
     let (mut image, mut memory) = (vec![0xA5A5_A5A5_A5A5_A5A5; words], vec![0xA5A5_A5A5; data]);
     let (mut image2, mut memory2) = (image.clone(), memory.clone());
     let ours = face::assemble(source, &mut image, &mut memory);
@@ -18,6 +19,7 @@ fn compare(source: &[u8], words: usize, data: usize) {
     let shown = String::from_utf8_lossy(&source[..source.len().min(2000)]);
     assert_eq!(ours, theirs, "of\n{shown}");
     assert!(image == image2 && memory == memory2, "the memories differ of\n{shown}");
+    ours.number
 }
 
 #[test]
@@ -43,16 +45,17 @@ fn wrong_lengths() {
 
 #[test]
 fn limits() {
-    for (instructions, labels) in [(4095, 1), (4096, 0), (4096, 1), (4097, 0), (10, 1024), (10, 1025), (4096, 1024)] {
+    // So many instructions and labels: the number with all labels in front, and that with the first at the end.
+    for (instructions, labels, front, end) in [(4095, 1, 0, 0), (4096, 0, 7, 8), (4096, 1, 0, 8), (4097, 0, 7, 8), (10, 1024, 0, 0), (10, 1025, 8, 8), (4096, 1024, 0, 8)] {
         let mut text = String::new();
         for n in 0..labels {
             text += &format!("label{n}:\n");
         }
         for n in 0..instructions {
-            text += &format!("add $t0,$t1,$t2,$s0,{},label{}\n", n % 4096, n % labels.max(1));
+            text += &format!("add $t0,$t1,$t2,$s0,0x{:X},label{}\n", n % 4096, n % labels.max(1));
         }
-        compare(text.as_bytes(), 4096, 4096);
-        compare((text.replace("label0:\n", "") + "label0:\n.word 1 2\n# end").as_bytes(), 4096, 4096);
+        assert_eq!(compare(text.as_bytes(), 4096, 4096), front);
+        assert_eq!(compare((text.replace("label0:\n", "") + "label0:\n.word 1 2\n# end").as_bytes(), 4096, 4096), end);
     }
 }
 

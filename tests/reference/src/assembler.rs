@@ -6,9 +6,15 @@ use crate::text::{binary_value, decimal_value, hex_value, lines};
 use crate::{Refusal, DATA_WORDS, IMAGE_WORDS, SOURCE_BYTES};
 use std::collections::{HashMap, HashSet};
 
+/// A number: its value, and whether it is written in decimal.
+struct Number {
+    value: i64,
+    decimal: bool,
+}
+
 /// An immediate: a number or a used label.
 enum Immediate {
-    Number(i64),
+    Number(Number),
     Label(String),
 }
 
@@ -28,8 +34,8 @@ enum Line {
         instruction: Option<Written>,
     },
     Word {
-        address: i64,
-        data: i64,
+        address: Number,
+        data: Number,
     },
 }
 
@@ -81,18 +87,18 @@ fn register_form(token: &[u8]) -> Option<String> {
 
 /// "Numbers: decimal of 1 to 10 digits, `-` allowed, or 0x and 1 to 8 digits of either case."
 /// Document 02 (i): "A number may also be 0b and 1 to 32 binary digits, unsigned".
-fn number_form(token: &[u8]) -> Option<i64> {
+fn number_form(token: &[u8]) -> Option<Number> {
     if let Some(digits) = token.strip_prefix(b"0x") {
         if digits.len() > 8 {
             return None;
         }
-        return hex_value(digits).map(|value| value as i64);
+        return hex_value(digits).map(unsigned);
     }
     if let Some(digits) = token.strip_prefix(b"0b") {
         if digits.len() > 32 {
             return None;
         }
-        return binary_value(digits).map(|value| value as i64);
+        return binary_value(digits).map(unsigned);
     }
     let (negative, digits) = match token.strip_prefix(b"-") {
         Some(digits) => (true, digits),
@@ -102,7 +108,18 @@ fn number_form(token: &[u8]) -> Option<i64> {
         return None;
     }
     let value = decimal_value(digits)? as i64;
-    Some(if negative { -value } else { value })
+    Some(Number {
+        value: if negative { -value } else { value },
+        decimal: true,
+    })
+}
+
+/// A number that is not written in decimal.
+fn unsigned(value: u64) -> Number {
+    Number {
+        value: value as i64,
+        decimal: false,
+    }
 }
 
 /// An immediate is a number or a label (A12).
@@ -211,20 +228,24 @@ fn names_are_known(instruction: &Written) -> bool {
             .all(|register| number_of(register, &REGISTERS).is_some())
 }
 
-/// Question 5 of an instruction: "Immediates run from -2048 to 4095".
+/// Question 5 of an instruction: "Immediates run from -2048 to 4095". Document 02 (iv): "A decimal
+/// immediate from 2048 to 4095 is now refused, by document 01's range question, number 5.
+/// Hexadecimal, binary and labels keep the wider range."
 fn immediates_are_in_range(instruction: &Written) -> bool {
     instruction
         .immediates
         .iter()
         .all(|immediate| match immediate {
-            Immediate::Number(number) => (-2048..=4095).contains(number),
+            Immediate::Number(Number { value, decimal }) => {
+                (-2048..=4095).contains(value) && !(*decimal && (2048..=4095).contains(value))
+            }
             Immediate::Label(_) => true,
         })
 }
 
 /// Question 5 of a `.word`: ".word addresses 0 to 4095, data -2^31 to 2^32-1".
-fn word_is_in_range(address: i64, data: i64) -> bool {
-    (0..=4095).contains(&address) && (-(1i64 << 31)..=(1i64 << 32) - 1).contains(&data)
+fn word_is_in_range(address: &Number, data: &Number) -> bool {
+    (0..=4095).contains(&address.value) && (-(1i64 << 31)..=(1i64 << 32) - 1).contains(&data.value)
 }
 
 /// Assembles `source` into `image` and `data`, both 4,096 words: question 1, then for the first bad
@@ -261,10 +282,10 @@ pub fn assemble(source: &[u8], image: &mut [u64], data: &mut [u32]) -> Result<()
         match line {
             Line::Word { address, data } => {
                 // 5. "Numbers in range?"
-                if !word_is_in_range(address, data) {
+                if !word_is_in_range(&address, &data) {
                     return refused(5);
                 }
-                words[address as usize] = data as u32;
+                words[address.value as usize] = data.value as u32;
             }
             Line::Code { label, instruction } => {
                 if let Some(instruction) = &instruction {
@@ -325,7 +346,7 @@ fn word_of(instruction: &Written, label_values: &HashMap<String, usize>) -> u64 
     // "stored modulo 4096"
     let immediate = |which: usize| {
         let value = match &instruction.immediates[which] {
-            Immediate::Number(number) => *number,
+            Immediate::Number(number) => number.value,
             Immediate::Label(used) => label_values[used] as i64,
         };
         value.rem_euclid(4096) as u32

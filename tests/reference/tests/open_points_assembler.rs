@@ -1,4 +1,4 @@
-//! The open points A1 to A22 and B1 to B5 and the assembler's questions.
+//! The open points A1 to A22, B1 to B5 and C1 to C5, and the assembler's questions.
 
 mod common;
 use common::*;
@@ -276,7 +276,7 @@ fn a15_names_are_case_sensitive() {
 fn a16_ranges() {
     let line = |immediate: &str| format!("add $v0, $a0, $a1, $a2, {immediate}, 0");
     assert_eq!(good(&line("-2048")).0[0], 0x003456800000);
-    assert_eq!(good(&line("4095")).0[0], 0x003456FFF000);
+    assert_eq!(good(&line("2047")).0[0], 0x0034567FF000);
     assert_eq!(good(&line("-1")).0[0], 0x003456FFF000);
     assert_eq!(good(&line("0xfff")).0[0], 0x003456FFF000);
     for wrong in [
@@ -489,6 +489,48 @@ fn b5_one_token_and_what_was_there_before() {
     }
     let labelled = good("b1010: add $v0, $a0, $a1, $a2, b1010, 0x0b1");
     assert_eq!(labelled.0[0], 0x0034560000B1);
+}
+
+#[test]
+fn c1_big_decimals() {
+    for wrong in ["2048", "0000002048", "3000", "4095", "0000004095", "4096", "-2049"] {
+        assert_eq!(number(&format!("add $v0, $a0, $a1, $a2, {wrong}, 2")), 5, "{wrong}");
+        assert_eq!(number(&format!("add $v0, $a0, $a1, $a2, 1, {wrong}")), 5, "{wrong}");
+    }
+    for (right, word) in [("-2048, 2047", 0x0034568007FF), ("-1, -0", 0x003456FFF000), ("0000002047, -0000002048", 0x0034567FF800)] {
+        assert_eq!(good(&format!("add $v0, $a0, $a1, $a2, {right}")).0[0], word, "{right}");
+    }
+}
+
+#[test]
+fn c2_word_is_not_touched() {
+    let memory = good(".word 4095 3000\n.word 2048 4095").1;
+    assert_eq!((memory[4095], memory[2048]), (3000, 4095));
+}
+
+#[test]
+fn c3_whatever_the_instruction_does_with_it() {
+    assert_eq!(number("beq $zero, $zero, $zero, $imm1, 3000, 0"), 5);
+    assert_eq!(number("halt $zero, $zero, $zero, $zero, 0, 3000"), 5);
+    assert_eq!(good("beq $zero, $zero, $zero, $imm1, 0xBB8, 0").0[0], 0x090001BB8000);
+}
+
+#[test]
+fn c4_the_other_forms_keep_the_wider_range() {
+    assert_eq!(good("add $v0, $a0, $a1, $a2, 0x800, 0xFFF").0[0], 0x003456800FFF);
+    assert_eq!(good("add $v0, $a0, $a1, $a2, 0b100000000000, 0b111111111111").0[0], 0x003456800FFF);
+    let before = format!("add {OPERANDS}\n").repeat(2048);
+    assert_eq!(good(&format!("{before}L: add $v0, $a0, $a1, $a2, L, 2")).0[2048], 0x003456800002);
+}
+
+#[test]
+fn c5_the_question_keeps_its_place() {
+    assert_eq!(number("foo $v0, $a0, $a1, $a2, 4095, 2"), 4);
+    assert_eq!(number("add $v0, $a0, $a1, $a2, 4095, M"), 5);
+    assert_eq!(assembled(b"L:\nL: add $v0, $a0, $a1, $a2, 4095, 2"), Err((5, 2)));
+    assert_eq!(assembled(b"add $v0, $a0, $a1, $a2, L, 2\nL: add $v0, $a0, $a1, $a2, 2048, 2"), Err((5, 2)));
+    let full = format!("add {OPERANDS}\n").repeat(4096);
+    assert_eq!(assembled(format!("{full}add $v0, $a0, $a1, $a2, 4095, 2").as_bytes()), Err((5, 4097)));
 }
 
 /// The token is 3 as a `.word` address, as its data and as each immediate.

@@ -1,0 +1,2 @@
+# the largest
+add $v0, $a0, $a1, $a2, 4095, 2

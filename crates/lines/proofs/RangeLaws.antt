@@ -31,6 +31,13 @@ isBigDecimal (Minus v) = false
 isBigDecimal (Unsigned v) = false
 isBigDecimal NoNumber = false
 
+before : map isImmediateBefore (Decimal 4095 ∷ Decimal 4096 ∷ Minus 2048 ∷ Minus 2049 ∷ Unsigned 4095 ∷ Unsigned 4096 ∷ [])
+    ≡ true ∷ false ∷ true ∷ false ∷ true ∷ false ∷ []
+before = refl
+
+big : map isBigDecimal (Decimal 2047 ∷ Decimal 2048 ∷ Decimal 4095 ∷ Decimal 4096 ∷ []) ≡ false ∷ true ∷ true ∷ false ∷ []
+big = refl
+
 -- .. "is now refused", and nothing else that was accepted.
 pub big-decimals-refused : (n : Number) → isImmediate n ≡ (isImmediateBefore n && not (isBigDecimal n))
 big-decimals-refused (Decimal v) = go (leb v 2047) refl

@@ -94,6 +94,11 @@ module _ {source table values t : List ℕ} {ls : List (List ℕ)} {count r : �
     label-early k =
         label-some (getD values r 0 % 4096) (omega arith) (λ u. let room = l .room in ap (λ (v : ℕ). v % 4096) (label-value u (omega arith)))
 
+-- "labels keep the wider range": a label's value is stored as it is up to 4095.
+pub label-stored : (all : List (List ℕ)) (t : List ℕ) → isNumber (number t) ≡ false → valueOf all t < 4096 → immediate all t ≡ valueOf all t
+unfolding immediate
+label-stored all t none h = rw none (omega arith)
+
 -- A number.
 pub number-read : {all : List (List ℕ)} {t : List ℕ} (n : Number) (inside : Bool) (v : ℕ) → n ≡ number t → isNumber n ≡ true → inside ≡ isImmediate n
     → v < 2 ^ 12 → v ≡ modulo 4096 n → ImmediateRead all t (record { inside = inside; defined = true; value = v })

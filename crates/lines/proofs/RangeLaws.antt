@@ -31,6 +31,7 @@ isBigDecimal (Minus v) = false
 isBigDecimal (Unsigned v) = false
 isBigDecimal NoNumber = false
 
+-- Both, at their limits.
 before : map isImmediateBefore (Decimal 4095 ∷ Decimal 4096 ∷ Minus 2048 ∷ Minus 2049 ∷ Unsigned 4095 ∷ Unsigned 4096 ∷ [])
     ≡ true ∷ false ∷ true ∷ false ∷ true ∷ false ∷ []
 before = refl

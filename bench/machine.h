@@ -6,6 +6,9 @@
 
 enum { IMAGE = 4096, MEMORY = 4096, DISK = 16384, FRAME = 65536, SECTOR = 128, MOST = 231 };
 
+// A disk command takes so many cycles, a word of it so many.
+enum { COMMAND_CYCLES = 1024, WORD_CYCLES = COMMAND_CYCLES / SECTOR };
+
 static const uint64_t LIMIT = 0xFFFFFFFFFF; // 2^40 - 1
 
 enum {

@@ -1,6 +1,6 @@
-// The machine of document 01 as a function SIMULATE: a run of n cycles from the fresh record on an image, memories and an
-// irq2 list. Who includes this file says how a line is written, by put_line_t, put_line_h and put_line_ld, which return the
-// place after it. Returns the log's length.
+// The machine of document 01 with document 02's slow disk as a function SIMULATE: a run of n cycles from the fresh record on an
+// image, memories and an irq2 list. Who includes this file says how a line is written, by put_line_t, put_line_h and
+// put_line_ld, which return the place after it. Returns the log's length.
 
 // The bits that an out keeps.
 static const uint32_t masks[23] = {
@@ -66,6 +66,8 @@ __attribute__((noinline)) size_t SIMULATE(const uint64_t *image, size_t image_le
     uint32_t r[16] = { 0 };
     uint32_t io[23] = { 0 };
     uint32_t status = 0, pc = 0, left = 0;
+    const uint32_t *from = disk; // The disk command's next word, ..
+    uint32_t *to = memory;       // .. and where it goes.
     bool handler = false;
     uint64_t age = 0;
     uint8_t *p = log;
@@ -174,13 +176,11 @@ __attribute__((noinline)) size_t SIMULATE(const uint64_t *image, size_t image_le
                     break;
                 }
                 uint32_t *buffer = memory + io[DISKBUFFER], *sector = disk + SECTOR * io[DISKSECTOR];
-                if (command == 1)
-                    memcpy(buffer, sector, SECTOR * sizeof *buffer);
-                else
-                    memcpy(sector, buffer, SECTOR * sizeof *buffer);
+                from = command == 1 ? sector : buffer;
+                to = command == 1 ? buffer : sector;
                 io[DISKCMD] = command;
                 io[DISKSTATUS] = 1;
-                left = 1024;
+                left = COMMAND_CYCLES;
                 break;
             }
             case DISKSTATUS:
@@ -209,10 +209,13 @@ __attribute__((noinline)) size_t SIMULATE(const uint64_t *image, size_t image_le
                 io[TIMERCURRENT]++;
             }
         }
-        if (began > 0 && --left == 0) {
-            io[DISKCMD] = 0;
-            io[DISKSTATUS] = 0;
-            io[IRQ1STATUS] = 1;
+        if (began > 0 && --left % WORD_CYCLES == 0) {
+            *to++ = *from++;
+            if (left == 0) {
+                io[DISKCMD] = 0;
+                io[DISKSTATUS] = 0;
+                io[IRQ1STATUS] = 1;
+            }
         }
         io[CLKS]++;
         age++;

@@ -16,13 +16,14 @@
  *   10  no word is left in the memory for this line
  *   11  a line of an irq2 file is no cycle: 1 to 13 decimal digits, below 2^40 - 1
  *   12  the irq2 cycles are not strictly rising
- *   13  the record is not sound
- *   14  the saved record is not of edition 1
+ *   13  the record is not sound; of a saved record of 94 bytes the five bits at its end are asked too: they are to be 0
+ *   14  the saved record is not of its length's edition: 2 in 94 bytes, 1 in 91
  *   15  the text does not fit the lent bytes
  *   16  a word has an opcode above 21
  *   17  a line of Intel HEX has a wrong form, digit or checksum, or is an end record with data or with text after it
  *   18  a record of Intel HEX is of another type than 00 and 01, or the end record is missing (the line after the last)
  *   19  a record of Intel HEX has a byte past the memory, or a first address that is not above the last byte named before it
+ *   20  the saved record is of edition 1 and was saved while the disk was busy
  *
  * A function that refuses leaves every lent memory as it was; simp_load and simp_run say what becomes of the record and of the report then. A place
  * and a count are written in both cases: `place` is the line, from 1, or the listed word, from 0, that is refused, and 0 where it is neither; a count is 0
@@ -34,8 +35,14 @@
  * The memories: an instruction image is 4,096 words, of which the low 48 bits are read; a data memory 4,096 words; a disk 16,384 words, which are
  * 128 sectors of 128; a frame 65,536 bytes.
  *
- * A record is 38 numbers: status, handler flag, PC, age, left, R3 to R15, I/O registers 0 to 17, 20, 21. 38 zeros are the fresh record. A number
- * that is too wide for its field makes the record unsound.
+ * A record is 40 numbers: status, handler flag, PC, age, left, sector, buffer, R3 to R15, I/O registers 0 to 17, 20, 21. 40 zeros are the fresh record.
+ * Sector and buffer are those of the disk command at work: at most 127 and at most 3968 while the disk is busy (left is above 0), both 0 while it is free.
+ * A number that is too wide for its field makes the record unsound.
+ *
+ * What changed with the slow disk, for a caller who lent 38 numbers and 91 bytes: lend 40 and 94. record[5] and record[6] are sector and buffer; R3 has
+ * moved from record[5] to record[7], I/O register 0 from record[18] to record[20]. A disk command moves its 128 words one by one, a word every 8 cycles, and
+ * no longer all at once: what is read is all there, and what is written may be changed, when diskstatus is 0 again. A record that was saved before, in 91
+ * bytes, is still read where its disk was free, with sector and buffer 0; where its disk was busy it is refused, number 20, for it doesn't tell them.
  */
 #ifndef SIMP_H
 #define SIMP_H
@@ -106,14 +113,14 @@ uint32_t simp_assemble(const uint8_t *source, size_t source_len, uint64_t *image
  * which is how many, and `place`. Returns 0, 1, 15 or 16. */
 uint32_t simp_list(const uint64_t *words, size_t words_len, uint8_t *text, size_t text_len, uint64_t *count, uint64_t *place);
 
-/* Saves a record, 38 numbers, in 91 bytes. Writes the bytes. Returns 0, 1 or 13. */
+/* Saves a record, 40 numbers, in 94 bytes, edition 2. Writes the bytes. Returns 0, 1 or 13. */
 uint32_t simp_save(const uint64_t *record, size_t record_len, uint8_t *bytes, size_t bytes_len);
 
-/* Reads a saved record of 91 bytes into the 38 numbers of a record. Writes the numbers: where it refuses, 38 zeros, the fresh record, unless there
- * are not 38 of them. Returns 0, 1, 13 or 14. */
+/* Reads a saved record of 94 bytes, edition 2, or of 91, edition 1, into the 40 numbers of a record. It asks 1, 14, 13 and 20 in this order. Writes the
+ * numbers: where it refuses, 40 zeros, the fresh record, unless there are not 40 of them. Returns 0, 1, 13, 14 or 20. */
 uint32_t simp_load(const uint8_t *bytes, size_t bytes_len, uint64_t *record, size_t record_len);
 
-/* Runs the machine of a record, 38 numbers, on an image of 4,096 words, a data memory of 4,096 words, a disk of 16,384 words and a frame of 65,536 bytes,
+/* Runs the machine of a record, 40 numbers, on an image of 4,096 words, a data memory of 4,096 words, a disk of 16,384 words and a frame of 65,536 bytes,
  * for at most `budget` cycles. `irq2` has the cycles, strictly rising, at which irq2status rises; it may have any length, and so may `log`. Writes the
  * record, the memory, the disk, the frame, the front of `log` and `report`, which is 3 numbers: cycles made, log bytes written, and the reason:
  *

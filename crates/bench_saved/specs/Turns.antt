@@ -4,6 +4,7 @@ use mathlib.Core.Bool.{cond}
 use mathlib.Core.List.{List}
 use lib.Dec.{eqb}
 use Rattle.text.specs.declared.Outcome.{Outcome}
+use Rattle.devices.specs.declared.Drive.{Drive}
 use Rattle.machine.specs.declared.Record.{Record}
 use Rattle.saved.specs.Calls.{freshRecord, saveOutcome, saveBytes, loadOutcome, loadRecord}
 
@@ -11,14 +12,14 @@ use Rattle.saved.specs.Calls.{freshRecord, saveOutcome, saveBytes, loadOutcome,
 abbrev pub one : Outcome → ℕ
 one t = cond (eqb (t .number) 0) 1 0
 
--- The record of numbers.
-abbrev pub given : ℕ → ℕ → ℕ → ℕ → ℕ → List ℕ → List ℕ → Record
-given status handler pc age left regs io =
-    record { core = record { status = status; handler = handler; pc = pc; age = age; left = left }; regs = regs; io = io }
+-- The record of its parts.
+abbrev pub given : ℕ → ℕ → ℕ → ℕ → Drive → List ℕ → List ℕ → Record
+given status handler pc age drive regs io =
+    record { core = record { status = status; handler = handler; pc = pc; age = age; drive = drive }; regs = regs; io = io }
 
 -- A record k cycles older.
 abbrev pub older : ℕ → Record → Record
-older k r = given (r .core .status) (r .core .handler) (r .core .pc) (r .core .age + k) (r .core .left) (r .regs) (r .io)
+older k r = given (r .core .status) (r .core .handler) (r .core .pc) (r .core .age + k) (r .core .drive) (r .regs) (r .io)
 
 -- ---- saving
 

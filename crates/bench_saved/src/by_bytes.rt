@@ -1,5 +1,5 @@
-// The save as it was before change (iii): the packer that builds the bytes one at a time, and the test of widths that asks all and ends at the first
-// that does not fit. Kept for bench/ only.
+// The save as it was before change (iii), of edition 2: the packer that builds the bytes one at a time, and the test of widths that asks all and ends
+// at the first that does not fit. Kept for bench/ only.
 use bitpack::bits::append;
 use bitpack::bits::low_byte;
 use bitpack::bits::wide;
@@ -18,7 +18,7 @@ ghost use Rattle.bitpack.specs.Needs.{Packs};
 ghost use Rattle.saved.specs.Answers.{savedOutcome};
 ghost use Rattle.saved.specs.Calls.{saveOutcome, saveBytes};
 
-// Saves a record in 91 bytes. A refusal changes nothing.
+// Saves a record in 94 bytes. A refusal changes nothing.
 pub fn save_by_bytes(r: Record, bytes: &mut [u8]) -> Saved
     ensures { λ answer. ⌜ (savedOutcome answer ≡ saveOutcome r (now (bytes .entry))) × (now (bytes .exit) ≡ saveBytes r (now (bytes .entry))) ⌝ }
 {

@@ -1,5 +1,6 @@
 // A record saved and read again and again: what bench/ measures.
 use crate::by_bytes::save_by_bytes;
+use devices::Drive;
 use machine::Core;
 use machine::Record;
 use saved::LoadAnswer;
@@ -9,6 +10,7 @@ use saved::load;
 use saved::save;
 ghost use mathlib.Core.Path.{_≡_};
 ghost use Prim.Native.Nat.{_-_};
+ghost use Rattle.devices.specs.Bus.{driveOf};
 ghost use Rattle.saved.specs.Answers.{savedOutcome, loadedOutcome};
 ghost use Rattle.saved.specs.Calls.{saveBytes};
 ghost use Rattle.bench_saved.specs.Turns.{one, given, saves, savesDone, loads, loadsDone};
@@ -24,21 +26,28 @@ pub extern "C" fn simp_bench_saves(
     pc: u32,
     age: u64,
     left: u32,
+    sector: u32,
+    buffer: u32,
     regs: &[u32; 13],
     io: &[u32; 23],
     by_bytes: bool,
     to: u64,
     bytes: &mut [u8],
 ) -> u64
-    ensures { λ n. ⌜ n ≡ savesDone (given status handler pc age left (now (regs .entry)) (now (io .entry))) (to - age) (now (bytes .entry)) ⌝ }
-    ensures { λ _. ⌜ now (bytes .exit) ≡ saves (given status handler pc age left (now (regs .entry)) (now (io .entry))) (to - age) (now (bytes .entry)) ⌝ }
+    ensures { λ n. ⌜ n ≡ savesDone (given status handler pc age (driveOf left sector buffer) (now (regs .entry)) (now (io .entry))) (to - age) (now (bytes .entry)) ⌝ }
+    ensures { λ _. ⌜ now (bytes .exit) ≡ saves (given status handler pc age (driveOf left sector buffer) (now (regs .entry)) (now (io .entry))) (to - age) (now (bytes .entry)) ⌝ }
 {
+    let drive = Drive {
+        left: left,
+        sector: sector,
+        buffer: buffer,
+    };
     let core = Core {
         status: status,
         handler: handler,
         pc: pc,
         age: age,
-        left: left,
+        drive: drive,
     };
     let r = Record {
         core: core,
@@ -108,5 +117,6 @@ fn is_loaded(a: LoadAnswer) -> u64
         LoadAnswer::WrongLength => 0,
         LoadAnswer::OtherEdition => 0,
         LoadAnswer::Unsound => 0,
+        LoadAnswer::Busy => 0,
     }
 }

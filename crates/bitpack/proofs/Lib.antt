@@ -7,3 +7,4 @@ pub mod LastBytes
 pub mod StreamLaws
 pub mod PackingLaws
 pub mod FitLaws
+pub mod FormatLaws

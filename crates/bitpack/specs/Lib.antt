@@ -3,4 +3,5 @@ pub mod Bits
 pub mod Packed
 pub mod Words
 pub mod Needs
+pub mod Format
 pub mod Examples

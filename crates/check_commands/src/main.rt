@@ -7,7 +7,7 @@
 //     picture MONITOR PGM          the command picture;
 //     hex WAY MEMORY FROM TO       the command hex;
 //     equal A B                    says whether two files hold the same bytes;
-//     numbers                      the lines of the refusals 0 to 20 at place 7, and of 12 and 16 at place 0.
+//     numbers                      the lines of the refusals 0 to 21 at place 7, and of 12 and 16 at place 0.
 // Before each step it prints the step's words. Where data/ has files that are expected, its README.md says where they come from.
 mod compare;
 mod steps;
@@ -90,7 +90,7 @@ fn simulate_step(i: usize)
 // Says each refusal.
 fn say_refusals() {
     let mut number = 0;
-    while number < 21 {
+    while number < 22 {
         say_refusal(b"file", number, 7);
         number += 1;
     }

@@ -4,7 +4,7 @@ use memories::load_record_at;
 use outputs::put_record;
 
 // Room for the text of a record.
-const ROOM: usize = 768;
+const ROOM: usize = 832;
 
 // Prints the saved record that an argument names.
 pub fn show_record(i: usize) {

@@ -38,18 +38,18 @@ counted-put kind n at p q d e f g pe qe first second third =
 -- ---- the words of a number
 
 -- A number that has no words.
-pub none-above : (n : ℕ) → 20 ≤ n → sentence n ≡ []
+pub none-above : (n : ℕ) → 21 ≤ n → sentence n ≡ []
 unfolding sentence sentences
 none-above n h = List·getD-eq-default sentences [] h
 
 -- The table's rows are as long, by a test computed over it.
-pub rows-length : (rows : List (List ℕ)) (d : List ℕ) → allBelow (λ k. eqb (length (getD rows k d)) longest) 20 ≡ true → (n : ℕ) → n < 20 → length (getD rows n d) ≡ longest
-rows-length rows d e n h = eqb-true _ _ (below (λ k. eqb (length (getD rows k d)) longest) 20 e n h)
+pub rows-length : (rows : List (List ℕ)) (d : List ℕ) → allBelow (λ k. eqb (length (getD rows k d)) longest) 21 ≡ true → (n : ℕ) → n < 21 → length (getD rows n d) ≡ longest
+rows-length rows d e n h = eqb-true _ _ (below (λ k. eqb (length (getD rows k d)) longest) 21 e n h)
 
 -- No sentence has more bytes than a row.
-pub sentence-most : (n : ℕ) → n < 20 → length (sentence n) ≤ longest
+pub sentence-most : (n : ℕ) → n < 21 → length (sentence n) ≤ longest
 unfolding sentence
-sentence-most = most-rule (λ k. length (sentence k)) longest 20 refl
+sentence-most = most-rule (λ k. length (sentence k)) longest 21 refl
 
 -- ---- the place
 

@@ -12,8 +12,8 @@ use Rattle.text.specs.Numerals.{decimal}
 unfoldable pub sentences : List (List ℕ)
 sentences =
     []
-    -- "are the lent lengths those above (source up to 262,144 bytes ..)? 1"
-    ∷ bytes "the length is wrong (a program has at most 262144 bytes, a saved record has 91)"
+    -- "are the lent lengths those above (source up to 262,144 bytes ..)? 1"; document 02 (v): "a length other than 91 or 94 (1)"
+    ∷ bytes "the length is wrong (a program has at most 262144 bytes, a saved record has 94, or 91 in edition 1)"
     -- "at most 500 bytes before the LF or the end, all blanks or 33 to 126? 2"
     ∷ bytes "the line has more than 500 bytes, or one that is neither a blank nor a visible ASCII character"
     -- "The line's form? 3"
@@ -38,8 +38,8 @@ sentences =
     ∷ bytes "the cycles do not rise (each is above the one before)"
     -- "Record sound? 13"
     ∷ bytes "the saved record is not sound (it holds what no machine can hold)"
-    -- "edition 1? 14"
-    ∷ bytes "the saved record has another edition than 1"
+    -- "an edition that isn't that length's (14)"
+    ∷ bytes "the saved record has another edition than its length says (94 bytes: 2; 91 bytes: 1)"
     -- "does the whole text fit? 15"
     ∷ bytes "the text does not fit"
     -- "opcode at most 21? 16"
@@ -50,6 +50,8 @@ sentences =
     ∷ bytes "the record is of another type than 00 (data) and 01 (end), or the end record :00000001FF is missing"
     -- "a byte past the memory or a first address not above the last byte named before it (19, never for a record without bytes)"
     ∷ bytes "the record names a byte past the memory (data 16384 bytes, disk 65536), or one not above the last named before"
+    -- "a busy edition 1 (20)"
+    ∷ bytes "the saved record has edition 1 and a busy disk (finish the command in the old edition, or start the run again)"
     ∷ []
 
 unfoldable pub sentence : ℕ → List ℕ

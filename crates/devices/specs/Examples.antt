@@ -1,11 +1,17 @@
 -- The definitions computed on small cases.
 use Prim.Native.Nat.{ℕ}
 use mathlib.Core.Path.{_≡_, refl}
+use mathlib.Core.Bool.{true, false}
 use mathlib.Core.List.{List}
 use lib.ListN.{getD, set, replicate}
-use Rattle.devices.specs.Numbers.{irq0status, timerenable, timercurrent, timermax, diskcmd, diskstatus}
+use Rattle.devices.specs.declared.Taken.the-variants.{Ignored, Cleared, Accepted, NoRoom}
+use Rattle.devices.specs.Numbers.{irq0status, irq1status, clks, timerenable, timercurrent, timermax, diskcmd, disksector, diskbuffer, diskstatus}
+use Rattle.devices.specs.Bus.{Bus, bus, driveOf, freeDrive}
 use Rattle.devices.specs.Timer.{timed}
-use Rattle.devices.specs.Disk.{freed, leftAfter, diskAfter}
+use Rattle.devices.specs.Command.{taken}
+use Rattle.devices.specs.Disk.{isDue, wordDue, memoryServed, diskServed, freed, driveFallen, ioFallen, served, diskStepped}
+use Rattle.devices.specs.Soundness.{isSoundDrive}
+use Rattle.devices.specs.Devices.{clocked, devicesStepped}
 
 -- "timermax 2, timercurrent 0, enabled in cycle 5: irq0status rises at the end of 7": not in its first and second step, but in the third.
 enabled : List ℕ
@@ -28,13 +34,85 @@ wraps : getD (timed (set enabled timercurrent 0xFFFFFFFF)) timercurrent 7 ≡ 0
 unfolding enabled timed
 wraps = refl
 
--- With one cycle to go the disk gets free; a command of this very cycle does not count.
-last-cycle : leftAfter 1 1 ≡ 0
-last-cycle = refl
+-- ---- a command: sector 5, buffer 3968
 
-gets-free : getD (diskAfter 1 1 (set (set (replicate 23 0) diskcmd 2) diskstatus 1)) diskstatus 7 ≡ 0
-unfolding freed
-gets-free = refl
+asked : List ℕ
+asked = set (set (replicate 18 0) disksector 5) diskbuffer 3968
 
-accepted-now : leftAfter 0 1024 ≡ 1024
+accepted : taken 1 asked ≡ Accepted (driveOf 1024 5 3968)
+unfolding asked taken
+accepted = refl
+
+-- "diskbuffer 3968 accepted, 3969 status 5"
+no-room : taken 2 (set asked diskbuffer 3969) ≡ NoRoom
+unfolding asked taken
+no-room = refl
+
+no-command : taken 3 asked ≡ Cleared
+unfolding asked taken
+no-command = refl
+
+-- Busy, a command is ignored whatever diskbuffer holds.
+ignored : taken 1 (set (set asked diskbuffer 3969) diskstatus 1) ≡ Ignored
+unfolding asked taken
+ignored = refl
+
+-- ---- the disk's step: a disk of two sectors, of which sector 1 has 1000 first and 1127 last, and a memory of 130 words with the buffer at 2
+
+-- A command accepted in cycle c: word 0 moves in c+8, word 1 in c+16, word 127 in c+1024, none in c+1 to c+7 nor in c+1023.
+due : (isDue 1016 ≡ true) × (wordDue 1016 ≡ 0) × (isDue 1008 ≡ true) × (wordDue 1008 ≡ 1) × (isDue 0 ≡ true) × (wordDue 0 ≡ 127)
+due = (refl, refl, refl, refl, refl, refl)
+
+not-due : (isDue 1023 ≡ false) × (isDue 1017 ≡ false) × (isDue 1 ≡ false)
+not-due = (refl, refl, refl)
+
+-- The bus with so many cycles to go and that command; the disk registers hold another sector and another buffer by now.
+atWork : ℕ → ℕ → Bus
+atWork left command =
+    bus (driveOf left 1 2) (set (set (set (set (replicate 18 0) disksector 0) diskbuffer 9) diskcmd command) diskstatus 1) (replicate 130 7) (set (set (replicate 256 0) 128 1000) 255 1127)
+
+-- Word 0 is read to place 2, the buffer taken, from word 128, the sector taken, and the rest stays.
+first-word : served (atWork 1017 1) ≡ bus (driveOf 1016 1 2) (atWork 1017 1 .io) (set (replicate 130 7) 2 1000) (atWork 1017 1 .disk)
+unfolding atWork served driveFallen ioFallen memoryServed diskServed
+first-word = refl
+
+-- A write moves it the other way.
+first-word-back : served (atWork 1017 2) ≡ bus (driveOf 1016 1 2) (atWork 1017 2 .io) (replicate 130 7) (set (atWork 1017 2 .disk) 128 7)
+unfolding atWork served driveFallen ioFallen memoryServed diskServed
+first-word-back = refl
+
+-- The cycle before moves none.
+no-word-yet : served (atWork 1018 1) ≡ bus (driveOf 1017 1 2) (atWork 1018 1 .io) (replicate 130 7) (atWork 1018 1 .disk)
+unfolding atWork served driveFallen ioFallen memoryServed diskServed
+no-word-yet = refl
+
+-- With one cycle to go the last word moves and the disk gets free, with sector and buffer zero and its interrupt asked for; its registers stay.
+last-word : served (atWork 1 1) ≡ bus freeDrive (set (set (set (atWork 1 1 .io) diskcmd 0) diskstatus 0) irq1status 1) (set (replicate 130 7) 129 1127) (atWork 1 1 .disk)
+unfolding atWork served driveFallen ioFallen memoryServed diskServed freed
+last-word = refl
+
+-- A command of this very cycle does not count yet; the clock does.
+accepted-now : devicesStepped 0 (atWork 1024 1) ≡ bus (driveOf 1024 1 2) (set (atWork 1024 1 .io) clks 1) (replicate 130 7) (atWork 1024 1 .disk)
+unfolding atWork devicesStepped diskStepped clocked timed
 accepted-now = refl
+
+-- ---- the clock: "clks + 1, wrapping"
+
+clock-wraps : (getD (clocked (set (replicate 18 0) clks 0xFFFFFFFF)) clks 7 ≡ 0) × (getD (clocked (set (replicate 18 0) clks 0x7FFFFFFF)) clks 7 ≡ 0x80000000)
+unfolding clocked
+clock-wraps = (refl, refl)
+
+-- ---- soundness
+
+-- Free: sector and buffer are zero. Busy: 1 to 1024 cycles to go, a buffer up to 3968, status 1 and a command.
+sound : (isSoundDrive freeDrive 0 0 ≡ true) × (isSoundDrive (driveOf 1024 127 3968) 1 2 ≡ true) × (isSoundDrive (driveOf 1 0 0) 1 1 ≡ true)
+sound = (refl, refl, refl)
+
+unsound-free : (isSoundDrive (driveOf 0 1 0) 0 0 ≡ false) × (isSoundDrive (driveOf 0 0 1) 0 0 ≡ false) × (isSoundDrive freeDrive 1 0 ≡ false) × (isSoundDrive freeDrive 0 1 ≡ false)
+unsound-free = (refl, refl, refl, refl)
+
+unsound-busy : (isSoundDrive (driveOf 1025 0 0) 1 1 ≡ false) × (isSoundDrive (driveOf 1 128 0) 1 1 ≡ false) × (isSoundDrive (driveOf 1 0 3969) 1 1 ≡ false)
+unsound-busy = (refl, refl, refl)
+
+unsound-command : (isSoundDrive (driveOf 1 0 0) 0 1 ≡ false) × (isSoundDrive (driveOf 1 0 0) 1 0 ≡ false) × (isSoundDrive (driveOf 1 0 0) 1 3 ≡ false)
+unsound-command = (refl, refl, refl)

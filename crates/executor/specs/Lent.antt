@@ -26,11 +26,11 @@ pub record Sized (memory disk frame : List ℕ) : Type 0 where
   pub disk-size : length disk ≡ 16384
   pub frame-size : length frame ≡ 65536
 
--- What an instruction may rely on of the I/O registers and the memories.
-pub record Ready (io memory disk frame : List ℕ) : Type 0 where
+-- What an out may rely on of the I/O registers and the frame.
+pub record Ready (io frame : List ℕ) : Type 0 where
   pub all : length io ≡ 23
   pub fitting : FittingIo io
-  pub sized : Sized memory disk frame
+  pub frame-size : length frame ≡ 65536
 
 -- A machine from the parts that the code holds: of R0 to R15, those from R3 on.
 abbrev pub packed : Core → List ℕ → List ℕ → List ℕ → List ℕ → List ℕ → Machine

@@ -11,7 +11,9 @@ use crate::progress::end;
 use machine::Core;
 use machine::Operands;
 ghost use mathlib.Core.Path.{_≡_};
-ghost use Prim.Native.Nat.{_<_};
+ghost use mathlib.Core.List.{List};
+ghost use Prim.Native.Nat.{ℕ, _<_};
+ghost use lib.ListN.{length};
 ghost use Rattle.text.specs.Numerals.{HexWords};
 ghost use Rattle.isa.specs.Operations.{operationOf};
 ghost use Rattle.machine.specs.Execution.{executed};
@@ -26,12 +28,11 @@ pub fn execute(
     text: &mut [u8; 118],
     io: &mut [u32; 23],
     memory: &mut [u32],
-    disk: &mut [u32],
     frame: &mut [u8],
     table: &[u64; 1024],
 ) -> Core
-    requires { ⌜ (o .target < 16) × (HaveText (now regs) (now text) × (HexWords (now table) × Ready (now io) (now memory) (now disk) (now frame))) ⌝ }
-    ensures { λ r. ⌜ (packed r (now (regs .exit)) (now (io .exit)) (now (memory .exit)) (now (disk .exit)) (now (frame .exit)) ≡ executed (operationOf op) o (packed c (now (regs .entry)) (now (io .entry)) (now (memory .entry)) (now (disk .entry)) (now (frame .entry)))) × HaveText (now (regs .exit)) (now (text .exit)) ⌝ }
+    requires { ⌜ (o .target < 16) × (HaveText (now regs) (now text) × (HexWords (now table) × ((length (now memory) ≡ 4096) × Ready (now io) (now frame)))) ⌝ }
+    ensures { λ r. ⌜ ((disk : List ℕ) → packed r (now (regs .exit)) (now (io .exit)) (now (memory .exit)) disk (now (frame .exit)) ≡ executed (operationOf op) o (packed c (now (regs .entry)) (now (io .entry)) (now (memory .entry)) disk (now (frame .entry)))) × HaveText (now (regs .exit)) (now (text .exit)) ⌝ }
 {
     match op {
         0..=8 => calculation(op, c, o, regs, text, table),
@@ -41,7 +42,7 @@ pub fn execute(
         17 => store(c, o, memory),
         18 => leave_handler(c, o, io),
         19 => input(c, o, regs, text, io, table),
-        20 => output(c, o, io, memory, disk, frame),
+        20 => output(c, o, io, frame),
         21 => end(c, 1),
         22..=0xFFFF_FFFF => end(c, 2),
     }

@@ -8,6 +8,8 @@ use isa::io::IRQRETURN;
 use isa::io::is_listed;
 use machine::Core;
 use machine::Operands;
+use machine::scalars::with_handler;
+use machine::scalars::with_pc;
 use words::arithmetic::plus;
 use words::operations::calculate;
 use words::operations::holds;
@@ -102,13 +104,7 @@ pub fn store(c: Core, o: Operands, memory: &mut [u32]) -> Core
 pub fn leave_handler(c: Core, o: Operands, io: &[u32; 23]) -> Core
     ensures { λ r. ⌜ ((regs memory disk frame : List ℕ) → packed r regs (now (io .entry)) memory disk frame ≡ executed reti o (packed c regs (now (io .entry)) memory disk frame)) ⌝ }
 {
-    Core {
-        status: c.status,
-        handler: 0,
-        pc: io[IRQRETURN],
-        age: c.age,
-        left: c.left,
-    }
+    with_pc(with_handler(c, 0), io[IRQRETURN])
 }
 
 // in.

@@ -22,39 +22,24 @@ ghost use Rattle.machine.specs.Soundness.{FittingIo};
 ghost use Rattle.executor.specs.Lent.{packed, Ready};
 
 // out.
-pub fn output(
-    c: Core,
-    o: Operands,
-    io: &mut [u32; 23],
-    memory: &mut [u32],
-    disk: &mut [u32],
-    frame: &mut [u8],
-) -> Core
-    requires { ⌜ Ready (now io) (now memory) (now disk) (now frame) ⌝ }
-    ensures { λ r. ⌜ ((regs : List ℕ) → packed r regs (now (io .exit)) (now (memory .exit)) (now (disk .exit)) (now (frame .exit)) ≡ executed outputOperation o (packed c regs (now (io .entry)) (now (memory .entry)) (now (disk .entry)) (now (frame .entry)))) ⌝ }
+pub fn output(c: Core, o: Operands, io: &mut [u32; 23], frame: &mut [u8]) -> Core
+    requires { ⌜ Ready (now io) (now frame) ⌝ }
+    ensures { λ r. ⌜ ((regs memory disk : List ℕ) → packed r regs (now (io .exit)) memory disk (now (frame .exit)) ≡ executed outputOperation o (packed c regs (now (io .entry)) memory disk (now (frame .entry)))) ⌝ }
 {
     let a = plus(o.rs, o.rt);
     if is_listed(a) {
-        return put_io(c, a, o.rm, io, memory, disk, frame);
+        return put_io(c, a, o.rm, io, frame);
     }
     end(c, 4)
 }
 
 // IO[a] = x, for a that is listed.
-fn put_io(
-    c: Core,
-    a: u32,
-    x: u32,
-    io: &mut [u32; 23],
-    memory: &mut [u32],
-    disk: &mut [u32],
-    frame: &mut [u8],
-) -> Core
-    requires { ⌜ (a < 23) × Ready (now io) (now memory) (now disk) (now frame) ⌝ }
-    ensures { λ r. ⌜ ((regs : List ℕ) → packed r regs (now (io .exit)) (now (memory .exit)) (now (disk .exit)) (now (frame .exit)) ≡ outputted a x (packed c regs (now (io .entry)) (now (memory .entry)) (now (disk .entry)) (now (frame .entry)))) ⌝ }
+fn put_io(c: Core, a: u32, x: u32, io: &mut [u32; 23], frame: &mut [u8]) -> Core
+    requires { ⌜ (a < 23) × Ready (now io) (now frame) ⌝ }
+    ensures { λ r. ⌜ ((regs memory disk : List ℕ) → packed r regs (now (io .exit)) memory disk (now (frame .exit)) ≡ outputted a x (packed c regs (now (io .entry)) memory disk (now (frame .entry)))) ⌝ }
 {
     match a {
-        14 => command(c, x % 4, io, memory, disk),
+        14 => command(c, x % 4, io),
         17 => onward(c),
         22 => {
             paint(x, io, frame);

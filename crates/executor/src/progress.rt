@@ -1,5 +1,7 @@
 // What ends an instruction: the next PC, or a status.
 use machine::Core;
+use machine::scalars::with_pc;
+use machine::scalars::with_status;
 ghost use mathlib.Core.Path.{_≡_};
 ghost use Prim.Native.Nat.{_+_, _%_};
 ghost use Rattle.machine.specs.State.{coreStatus, corePc};
@@ -15,37 +17,19 @@ pub fn next(c: Core) -> u32
 pub fn onward(c: Core) -> Core
     ensures { λ r. ⌜ r ≡ corePc ((c .pc + 1) % 4096) c ⌝ }
 {
-    Core {
-        status: c.status,
-        handler: c.handler,
-        pc: next(c),
-        age: c.age,
-        left: c.left,
-    }
+    with_pc(c, next(c))
 }
 
 // A jump to the low 12 bits of a word.
 pub fn jump(c: Core, to: u32) -> Core
     ensures { λ r. ⌜ r ≡ corePc (to % 4096) c ⌝ }
 {
-    Core {
-        status: c.status,
-        handler: c.handler,
-        pc: to % 4096,
-        age: c.age,
-        left: c.left,
-    }
+    with_pc(c, to % 4096)
 }
 
 // A halt or a fault: the status, and nothing else.
 pub fn end(c: Core, status: u32) -> Core
     ensures { λ r. ⌜ r ≡ coreStatus status c ⌝ }
 {
-    Core {
-        status: status,
-        handler: c.handler,
-        pc: c.pc,
-        age: c.age,
-        left: c.left,
-    }
+    with_status(c, status)
 }

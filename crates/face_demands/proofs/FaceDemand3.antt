@@ -190,7 +190,7 @@ pub face-demand3 : (irq2 : List ℕ) (h : Held) → Fresh (standingIn h) → {ca
     → Demand3 lab irq2 (standingIn h) calls done
 face-demand3 irq2 h fresh {calls} {done} made = demand3-met irq2 (standingIn h) fresh calls done (face-trace irq2 (good-fresh (standingIn h) fresh) made)
 
--- A caller that holds 38 zeros, memories of document 01's lengths, and in them 32-bit words and bytes, starts so.
+-- A caller that holds 40 zeros, memories of document 01's lengths, and in them 32-bit words and bytes, starts so.
 pub fresh-held : (image memory disk frame : List ℕ) → length image ≡ imageWords → length memory ≡ dataWords → length disk ≡ diskWords → length frame ≡ frameBytes
     → Below (2 ^ 32) memory → Below (2 ^ 32) disk → Below (2 ^ 8) frame
     → Fresh (standingIn (record { numbers = replicate recordNumbers 0; image = image; memory = memory; disk = disk; frame = frame }))

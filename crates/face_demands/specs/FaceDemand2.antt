@@ -31,7 +31,7 @@ FaceListing =
     → Assembles (take count text) image memory s imageAfter memoryAfter line
     → (r ≡ 0) × (s ≡ 0) × SameImage imageAfter words × (memoryAfter ≡ replicate dataWords 0)
 
--- `simp_save` returned r, and `simp_load`, which was lent those bytes and any 38 numbers, returned s: both return 0, and the numbers are the same.
+-- `simp_save` returned r, and `simp_load`, which was lent those bytes and any 40 numbers, returned s: both return 0, and the numbers are the same.
 abbrev pub FaceRecord : Type 0
 FaceRecord =
     (numbers bytes sent into after : List ℕ) (r s : ℕ)

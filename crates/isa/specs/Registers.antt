@@ -5,7 +5,7 @@ use mathlib.Core.List.{List, [], _∷_}
 use lib.Dec.{ltb}
 use lib.ListN.{getD}
 use Rattle.text.specs.Bytes.{bytes}
-pub use Rattle.devices.specs.Numbers.{irq0status, irq1status, timerenable, timercurrent, timermax, diskcmd, diskstatus}
+pub use Rattle.devices.specs.Numbers.{irq0enable, irq1enable, irq2enable, irq0status, irq1status, irq2status, irqhandler, irqreturn, clks, leds, timerenable, timercurrent, timermax, diskcmd, disksector, diskbuffer, diskstatus}
 
 -- "Registers R0 to R15 ..: $zero $imm1 $imm2 $v0 $a0 $a1 $a2 $t0 $t1 $t2 $s0 $s1 $s2 $gp $sp $ra."
 unfoldable pub registerNames : List (List ℕ)
@@ -84,40 +84,10 @@ ioBits n = getD ioRegisters n notListed .bits
 abbrev pub isListed : ℕ → Bool
 isListed n = ltb 0 (ioBits n)
 
--- ---- their numbers; those that the devices act on stand with the devices
-
-abbrev pub irq0enable : ℕ
-irq0enable = 0
-
-abbrev pub irq1enable : ℕ
-irq1enable = 1
-
-abbrev pub irq2enable : ℕ
-irq2enable = 2
-
-abbrev pub irq2status : ℕ
-irq2status = 5
-
-abbrev pub irqhandler : ℕ
-irqhandler = 6
-
-abbrev pub irqreturn : ℕ
-irqreturn = 7
-
-abbrev pub clks : ℕ
-clks = 8
-
-abbrev pub leds : ℕ
-leds = 9
+-- ---- their numbers; 0 to 9 and 11 to 17 stand with the devices
 
 abbrev pub display7seg : ℕ
 display7seg = 10
-
-abbrev pub disksector : ℕ
-disksector = 15
-
-abbrev pub diskbuffer : ℕ
-diskbuffer = 16
 
 abbrev pub monitoraddr : ℕ
 monitoraddr = 20

@@ -1,8 +1,18 @@
 // The I/O registers: their numbers, which are listed, and how many bits each has.
+pub use devices::numbers::CLKS;
+pub use devices::numbers::DISKBUFFER;
 pub use devices::numbers::DISKCMD;
+pub use devices::numbers::DISKSECTOR;
 pub use devices::numbers::DISKSTATUS;
+pub use devices::numbers::IRQ0ENABLE;
 pub use devices::numbers::IRQ0STATUS;
+pub use devices::numbers::IRQ1ENABLE;
 pub use devices::numbers::IRQ1STATUS;
+pub use devices::numbers::IRQ2ENABLE;
+pub use devices::numbers::IRQ2STATUS;
+pub use devices::numbers::IRQHANDLER;
+pub use devices::numbers::IRQRETURN;
+pub use devices::numbers::LEDS;
 pub use devices::numbers::TIMERCURRENT;
 pub use devices::numbers::TIMERENABLE;
 pub use devices::numbers::TIMERMAX;
@@ -11,27 +21,7 @@ ghost use Prim.Native.Nat.{_%_, _^_, _≤_, _<_};
 ghost use lib.ListN.{length};
 ghost use Rattle.isa.specs.Registers.{isListed, ioBits, ioName};
 
-pub const IRQ0ENABLE: usize = 0;
-
-pub const IRQ1ENABLE: usize = 1;
-
-pub const IRQ2ENABLE: usize = 2;
-
-pub const IRQ2STATUS: usize = 5;
-
-pub const IRQHANDLER: usize = 6;
-
-pub const IRQRETURN: usize = 7;
-
-pub const CLKS: usize = 8;
-
-pub const LEDS: usize = 9;
-
 pub const DISPLAY7SEG: usize = 10;
-
-pub const DISKSECTOR: usize = 15;
-
-pub const DISKBUFFER: usize = 16;
 
 pub const MONITORADDR: usize = 20;
 

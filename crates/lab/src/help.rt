@@ -61,12 +61,12 @@ pub fn print_show_help() {
     at = put_if_room(
         &mut text,
         at,
-        b"  RECORD  the saved record, 91 bytes, as lab resume writes it; it is read\n\nExample:\n\n  lab show record.bin\n\n",
+        b"  RECORD  the saved record, 94 bytes, as lab resume writes it (or 91, of last term); it is read\n\nExample:\n\n  lab show record.bin\n\n",
     );
     at = put_if_room(
         &mut text,
         at,
-        b"A line has a name and its value. PC and the registers are hexadecimal; status, handler,\nage (cycles done) and left (disk cycles to go) are decimal. handler is 1 inside the interrupt\nhandler.\n",
+        b"A line has a name and its value. PC and the registers are hexadecimal; status, handler,\nage (cycles done), left (disk cycles to go), sector and buffer are decimal. handler is 1 inside the\ninterrupt handler. sector and buffer are those of the disk command that goes on; 0 without one.\n",
     );
     say(&text[..at]);
 }
@@ -103,7 +103,7 @@ pub fn print_resume_help() {
     at = put_if_room(
         &mut text,
         at,
-        b"  IMEM     the instructions; read\n  DMEM     the data; read and written back\n  DISK     the disk; read and written back\n  MONITOR  the frame; read and written back\n  RECORD   the saved record; read and written back. Where there is none, the run starts fresh,\n           and MONITOR may be missing\n",
+        b"  IMEM     the instructions; read\n  DMEM     the data; read and written back\n  DISK     the disk; read and written back\n  MONITOR  the frame; read and written back\n  RECORD   the saved record; read and written back. One of last term, of edition 1, is read too.\n           Where there is none, the run starts fresh, and MONITOR may be missing\n",
     );
     at = put_if_room(
         &mut text,

@@ -4,6 +4,7 @@ use mathlib.Core.Path.{_≡_, refl, _∙_, ap}
 use mathlib.Core.Bool.{Bool, _&&_}
 use mathlib.Core.List.{List}
 use lib.Dec.{eqb, ltb}
+use Rattle.devices.specs.Command.{taken}
 use Rattle.isa.specs.Word.{fieldsOf}
 use Rattle.isa.specs.Operations.{Operation, operationOf, calculate, branch, jal, lw, sw, reti, input, output, halt, unknown}
 use Rattle.isa.specs.Registers.{isListed, diskcmd, diskstatus, monitorcmd}
@@ -11,9 +12,9 @@ use Rattle.words.specs.Words.{holds}
 use Rattle.machine.specs.State.{Machine}
 use Rattle.machine.specs.declared.Operands.{Operands}
 use Rattle.machine.specs.Interrupts.{isRequested, irq2Raised, interrupted}
-use Rattle.machine.specs.Execution.{fetched, operandsOf, address, isFree, isReadOrWrite, hasRoom, onward, begun, attempted, commanded, painted, outputted, executed, fetchedAndExecuted}
-use Rattle.machine.specs.Cycle.{timerStepped, diskStepped, counted, atFetch, stepped}
-use Rattle.machine.proofs.Choice.{either}
+use Rattle.machine.specs.Execution.{fetched, operandsOf, address, onward, commanded, painted, outputted, executed, fetchedAndExecuted}
+use Rattle.machine.specs.Cycle.{finished, atFetch, stepped}
+use Rattle.machine.proofs.Choice.{either, proceeds}
 
 -- s has the age of m.
 pub record KeepsAge (m s : Machine) : Type 0 where
@@ -32,15 +33,8 @@ age-at-fetch hit m =
 
 -- .. a disk command, ..
 age-commanded : (low : ℕ) (m : Machine) → KeepsAge m (commanded low m)
-unfolding commanded attempted
-age-commanded low m =
-    either (KeepsAge m) (isFree m)
-    (either (KeepsAge m) (isReadOrWrite low)
-    (either (KeepsAge m) (hasRoom m)
-    (and-onward m (begun low m) (record { same = either (KeepsAge m) (eqb low 1) (record { same = refl }) (record { same = refl }) .same }))
-    (record { same = refl }))
-    (record { same = refl }))
-    (record { same = refl })
+unfolding commanded
+age-commanded low m = proceeds (KeepsAge m) (taken low (m .io)) _ (record { same = refl }) (record { same = refl })
 
 -- .. and every instruction keep the age.
 age-executed : (k : Operation) (o : Operands) (m : Machine) → KeepsAge m (executed k o m)
@@ -65,7 +59,7 @@ age-executed unknown o m = record { same = refl }
 
 -- So a cycle adds one.
 pub age-after : (image : List ℕ) (hit : Bool) (m : Machine) → stepped image hit m .core .age ≡ m .core .age + 1
-unfolding stepped counted diskStepped timerStepped fetchedAndExecuted
+unfolding stepped finished fetchedAndExecuted
 age-after image hit m =
     let s = atFetch hit m in
     let f = fieldsOf (fetched image s) in

@@ -1,107 +1,121 @@
--- A disk command and its 1,024 cycles. Assumes nothing.
-use Prim.Native.Nat.{ℕ, _-_, _%_, _<_}
-use mathlib.Core.Path.{_≡_, refl, _∙_, ap}
+-- What no instruction changes while the disk is busy, and what a command that is accepted takes. Assumes nothing.
+use Prim.Native.Nat.{ℕ, _%_, _<_}
+use mathlib.Core.Path.{_≡_, refl, sym, _∙_, ap}
 use mathlib.Core.Bool.{Bool, true, false, _&&_, false≢true}
 use mathlib.Core.List.{List}
+use native.Mathlib.Omega.{arith}
 use lib.Dec.{eqb, leb, ltb}
-use borrow.Author.Tests.{eqb-true, lt-ltb}
+use lib.ListN.{getD, set}
+use lib.Seq.{getD-set-other}
+use borrow.Author.Tests.{eqb-true, eqb-false}
 use Rattle.text.proofs.Truth.{and-left, and-right}
-use Rattle.devices.specs.Disk.{leftAfter}
+use Rattle.devices.specs.Command.{isFree, isReadOrWrite, hasRoom, newDrive, taken}
+use Rattle.devices.specs.Transfer.{Keeps}
+use Rattle.devices.specs.declared.Taken.the-variants.{Ignored}
 use Rattle.isa.specs.Word.{fieldsOf}
 use Rattle.isa.specs.Operations.{Operation, operationOf, calculate, branch, jal, lw, sw, reti, input, output, halt, unknown}
-use Rattle.isa.specs.Registers.{isListed, ioBits, diskcmd, diskstatus, diskbuffer, monitorcmd}
+use Rattle.isa.specs.Registers.{isListed, ioBits, irq2status, irqreturn, diskcmd, diskstatus, monitorcmd}
 use Rattle.words.specs.Words.{holds}
-use Rattle.machine.specs.State.{Machine, ioAt}
+use Rattle.machine.specs.State.{Machine, busOf, ioAt, putIo}
 use Rattle.machine.specs.Interrupts.{isRequested, irq2Raised, interrupted}
 use Rattle.machine.specs.declared.Operands.{Operands}
-use Rattle.machine.specs.Execution.{fetched, operandsOf, address, isFree, isReadOrWrite, onward, attempted, commanded, painted, outputted, executed, fetchedAndExecuted}
-use Rattle.machine.specs.Cycle.{isOutput, timerStepped, diskStepped, counted, atFetch, stepped, isCommand, acceptsAtFetch}
+use Rattle.machine.specs.Execution.{fetched, operandsOf, address, onward, commanded, painted, outputted, executed, fetchedAndExecuted}
+use Rattle.machine.specs.Cycle.{isOutput, atFetch, isCommand, acceptsAtFetch, commandAtFetch}
 use Rattle.machine.proofs.Choice.{either}
 
--- s has the cycles to go that m has.
-pub record KeepsLeft (m s : Machine) : Type 0 where
-  pub same : s .core .left ≡ m .core .left
+-- s keeps what no instruction changes while the disk of m is busy.
+pub record KeepsDisk (m s : Machine) : Type 0 where
+  pub keeps : Keeps (busOf m) (busOf s)
 
-and-onward : (m s : Machine) → KeepsLeft m s → KeepsLeft m (onward s)
-and-onward m s k = record { same = k .same }
+-- A machine with the same drive and I/O registers does, ..
+same : {m s : Machine} → s .core .drive ≡ m .core .drive → s .io ≡ m .io → KeepsDisk m s
+same d e = record { keeps = record { drive = d; command = ap (λ (io : List ℕ). getD io diskcmd 0) e; status = ap (λ (io : List ℕ). getD io diskstatus 0) e } }
 
--- Steps 1 and 2 don't change left.
-pub left-at-fetch : (hit : Bool) (m : Machine) → KeepsLeft m (atFetch hit m)
+-- .. and so does one with another I/O register set.
+put-other : (m : Machine) (n x : ℕ) → (n ≡ diskcmd → ⊥) → (n ≡ diskstatus → ⊥) → KeepsDisk m (putIo n x m)
+put-other m n x a b =
+    record { keeps = record { drive = refl; command = getD-set-other (m .io) n diskcmd x 0 (λ e. a (sym e)); status = getD-set-other (m .io) n diskstatus x 0 (λ e. b (sym e)) } }
+
+pub and-then : (m s t : Machine) → KeepsDisk m s → KeepsDisk s t → KeepsDisk m t
+and-then m s t a b =
+    record { keeps = record { drive = b .keeps .drive ∙ a .keeps .drive; command = b .keeps .command ∙ a .keeps .command; status = b .keeps .status ∙ a .keeps .status } }
+
+and-onward : (m s : Machine) → KeepsDisk m s → KeepsDisk m (onward s)
+and-onward m s k = record { keeps = record { drive = k .keeps .drive; command = k .keeps .command; status = k .keeps .status } }
+
+-- Steps 1 and 2 do.
+pub kept-at-fetch : (hit : Bool) (m : Machine) → KeepsDisk m (atFetch hit m)
 unfolding atFetch interrupted irq2Raised
-left-at-fetch hit m =
-    let entry = either (KeepsLeft (irq2Raised hit m)) (isRequested (irq2Raised hit m .io) && eqb (irq2Raised hit m .core .handler) 0) (record { same = refl }) (record { same = refl }) in
-    let raised = either (KeepsLeft m) (hit) (record { same = refl }) (record { same = refl }) in
-    record { same = entry .same ∙ raised .same }
+kept-at-fetch hit m =
+    let r = irq2Raised hit m in
+    let raised = either (KeepsDisk m) hit (put-other m irq2status 1 (λ e. omega arith) (λ e. omega arith)) (same refl refl) in
+    let put = put-other r irqreturn (r .core .pc) (λ e. omega arith) (λ e. omega arith) .keeps in
+    and-then m r _ raised
+    (either (KeepsDisk r) (isRequested (r .io) && eqb (r .core .handler) 0) (record { keeps = record { drive = put .drive; command = put .command; status = put .status } }) (same refl refl))
 
--- While the disk is busy no instruction changes left.
-pub left-kept : (k : Operation) (o : Operands) (m : Machine) → isFree m ≡ false → KeepsLeft m (executed k o m)
-unfolding executed outputted commanded attempted painted
-left-kept (calculate k) o m busy = record { same = refl }
-left-kept (branch k) o m busy = either (KeepsLeft m) (holds k (o .rs) (o .rt)) (record { same = refl }) (record { same = refl })
-left-kept jal o m busy = record { same = refl }
-left-kept lw o m busy = either (KeepsLeft m) (ltb (address o) 4096) (record { same = refl }) (record { same = refl })
-left-kept sw o m busy = either (KeepsLeft m) (ltb (address o) 4096) (record { same = refl }) (record { same = refl })
-left-kept reti o m busy = record { same = refl }
-left-kept input o m busy = either (KeepsLeft m) (isListed (address o)) (record { same = refl }) (record { same = refl })
-left-kept output o m busy =
-    either (KeepsLeft m) (isListed (address o))
-    (either (KeepsLeft m) (eqb (address o) diskcmd)
-    (record { same = rw busy })
-    (and-onward m _
-    (either (KeepsLeft m) (eqb (address o) diskstatus) (record { same = refl })
-    (either (KeepsLeft m) (eqb (address o) monitorcmd) (either (KeepsLeft m) (eqb (o .rm % 2) 1) (record { same = refl }) (record { same = refl })) (record { same = refl })))))
-    (record { same = refl })
-left-kept halt o m busy = record { same = refl }
-left-kept unknown o m busy = record { same = refl }
+-- An out that finds the disk busy does, ..
+kept-outputted : (a x : ℕ) (m : Machine) → taken (x % 4) (m .io) ≡ Ignored → KeepsDisk m (outputted a x m)
+unfolding outputted commanded painted
+kept-outputted a x m ignored = go (eqb a diskcmd) refl (eqb a diskstatus) refl
+  where
+    go : (t : Bool) → eqb a diskcmd ≡ t → (u : Bool) → eqb a diskstatus ≡ u → KeepsDisk m (outputted a x m)
+    go true e u f = rw (e, ignored) (same refl refl)
+    go false e true f = rw (e, f) (same refl refl)
+    go false e false f =
+        rw (e, f)
+        (and-onward m _
+        (either (KeepsDisk m) (eqb a monitorcmd) (either (KeepsDisk m) (eqb (x % 2) 1) (same refl refl) (same refl refl))
+        (put-other m a _ (eqb-false a diskcmd e) (eqb-false a diskstatus f))))
 
--- A command that is accepted leaves 1,024 cycles to go.
-command-left : (k : Operation) (o : Operands) (m : Machine) → isCommand k o m ≡ true → executed k o m .core .left ≡ 1024
-unfolding isCommand executed outputted commanded attempted ioBits
-command-left (calculate k) o m h = absurd (false≢true h)
-command-left (branch k) o m h = absurd (false≢true h)
-command-left jal o m h = absurd (false≢true h)
-command-left lw o m h = absurd (false≢true h)
-command-left sw o m h = absurd (false≢true h)
-command-left reti o m h = absurd (false≢true h)
-command-left input o m h = absurd (false≢true h)
-command-left output o m h =
+-- .. and so does every instruction.
+pub kept-executed : (k : Operation) (o : Operands) (m : Machine) → ((low : ℕ) → taken low (m .io) ≡ Ignored) → KeepsDisk m (executed k o m)
+unfolding executed
+kept-executed (calculate k) o m busy = same refl refl
+kept-executed (branch k) o m busy = either (KeepsDisk m) (holds k (o .rs) (o .rt)) (same refl refl) (same refl refl)
+kept-executed jal o m busy = same refl refl
+kept-executed lw o m busy = either (KeepsDisk m) (ltb (address o) 4096) (same refl refl) (same refl refl)
+kept-executed sw o m busy = either (KeepsDisk m) (ltb (address o) 4096) (same refl refl) (same refl refl)
+kept-executed reti o m busy = same refl refl
+kept-executed input o m busy = either (KeepsDisk m) (isListed (address o)) (same refl refl) (same refl refl)
+kept-executed output o m busy = either (KeepsDisk m) (isListed (address o)) (kept-outputted (address o) (o .rm) m (busy (o .rm % 4))) (same refl refl)
+kept-executed halt o m busy = same refl refl
+kept-executed unknown o m busy = same refl refl
+
+-- ---- a command that is accepted
+
+-- It takes sector and buffer, diskcmd holds it, and diskstatus is 1.
+command-does : (k : Operation) (o : Operands) (m : Machine) → isCommand k o m ≡ true
+    → (executed k o m .core .drive ≡ newDrive (m .io)) × (executed k o m .io ≡ set (set (m .io) diskcmd (o .rm % 4)) diskstatus 1)
+unfolding isCommand executed outputted commanded taken ioBits
+command-does (calculate k) o m h = absurd (false≢true h)
+command-does (branch k) o m h = absurd (false≢true h)
+command-does jal o m h = absurd (false≢true h)
+command-does lw o m h = absurd (false≢true h)
+command-does sw o m h = absurd (false≢true h)
+command-does reti o m h = absurd (false≢true h)
+command-does input o m h = absurd (false≢true h)
+command-does output o m h =
     let a = eqb (address o) diskcmd in
     let b = isReadOrWrite (o .rm % 4) in
-    let f = isFree m in
-    let buffer = and-right (a && b && f) (leb (ioAt diskbuffer m) 3968) h in
-    let three = and-left (a && b && f) (leb (ioAt diskbuffer m) 3968) h in
+    let f = isFree (m .io) in
+    let buffer = and-right (a && b && f) (hasRoom (m .io)) h in
+    let three = and-left (a && b && f) (hasRoom (m .io)) h in
     let two = and-left (a && b) f three in
     let at = eqb-true (address o) diskcmd (and-left a b two) in
-    rw (at, and-right (a && b) f three, and-right a b two, buffer)
-command-left halt o m h = absurd (false≢true h)
-command-left unknown o m h = absurd (false≢true h)
+    (rw (at, and-right (a && b) f three, and-right a b two, buffer), rw (at, and-right (a && b) f three, and-right a b two, buffer))
+command-does halt o m h = absurd (false≢true h)
+command-does unknown o m h = absurd (false≢true h)
 
 -- It finds the disk free.
-pub command-free : (k : Operation) (o : Operands) (m : Machine) → isCommand k o m ≡ true → isFree m ≡ true
+pub command-free : (k : Operation) (o : Operands) (m : Machine) → isCommand k o m ≡ true → isFree (m .io) ≡ true
 unfolding isCommand
 command-free k o m h =
     let a = isOutput k && eqb (address o) diskcmd && isReadOrWrite (o .rm % 4) in
-    and-right a (isFree m) (and-left (a && isFree m) (leb (ioAt diskbuffer m) 3968) h)
+    and-right a (isFree (m .io)) (and-left (a && isFree (m .io)) (hasRoom (m .io)) h)
 
--- ---- over a whole cycle
-
--- "left = 1024": a cycle that accepts a command while no cycles were to go.
-pub accepted-left : (image : List ℕ) (hit : Bool) (m : Machine) → m .core .left ≡ 0 → acceptsAtFetch image (atFetch hit m) ≡ true → stepped image hit m .core .left ≡ 1024
-unfolding acceptsAtFetch stepped counted diskStepped timerStepped fetchedAndExecuted
-accepted-left image hit m idle h =
-    let s = atFetch hit m in
-    let f = fieldsOf (fetched image s) in
-    let k = operationOf (f .op) in
-    let o = operandsOf f s in
-    ap (λ (n : ℕ). leftAfter n (executed k o s .core .left)) idle ∙ command-left k o s h
-
--- Each later cycle takes one: a cycle that finds the disk busy at step 3.
-pub busy-left : (image : List ℕ) (hit : Bool) (m : Machine) → 0 < m .core .left → isFree (atFetch hit m) ≡ false → stepped image hit m .core .left ≡ m .core .left - 1
-unfolding stepped counted diskStepped timerStepped fetchedAndExecuted
-busy-left image hit m going busy =
-    let s = atFetch hit m in
-    let f = fieldsOf (fetched image s) in
-    let k = operationOf (f .op) in
-    let o = operandsOf f s in
-    let unchanged = left-kept k o s busy .same ∙ left-at-fetch hit m .same in
-    rw (lt-ltb 0 (m .core .left) going) (ap (λ (n : ℕ). n - 1) unchanged)
+pub accepted-does : (image : List ℕ) (m : Machine) → acceptsAtFetch image m ≡ true
+    → (fetchedAndExecuted image m .core .drive ≡ newDrive (m .io)) × (fetchedAndExecuted image m .io ≡ set (set (m .io) diskcmd (commandAtFetch image m)) diskstatus 1)
+unfolding acceptsAtFetch fetchedAndExecuted
+accepted-does image m h =
+    let f = fieldsOf (fetched image m) in
+    command-does (operationOf (f .op)) (operandsOf f m) m h

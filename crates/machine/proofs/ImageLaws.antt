@@ -16,7 +16,7 @@ use Rattle.isa.proofs.WordLaws.{high-bits-not-read}
 use Rattle.trace.specs.LogLines.{field, registerFields, lineT}
 use Rattle.machine.specs.State.{Machine}
 use Rattle.machine.specs.Execution.{fetched, registersOf, operandsOf, executed, fetchedAndExecuted}
-use Rattle.machine.specs.Cycle.{timerStepped, diskStepped, counted, atFetch, stepped}
+use Rattle.machine.specs.Cycle.{finished, atFetch, stepped}
 use Rattle.machine.specs.Log.{ioLines, linesAtFetch}
 
 -- The low 48 bits of the two images are the same at each place.
@@ -45,4 +45,4 @@ module _ (a b : List ℕ) (same : SameWords a b) where
   -- .. and the cycle.
   pub same-cycle : (hit : Bool) (m : Machine) → stepped a hit m ≡ stepped b hit m
   unfolding stepped
-  same-cycle hit m = ap (λ (s : Machine). counted (diskStepped (m .core .left) (timerStepped s))) (same-execution (atFetch hit m))
+  same-cycle hit m = ap (λ (s : Machine). finished (m .core .drive .left) s) (same-execution (atFetch hit m))

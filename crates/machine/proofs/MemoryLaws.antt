@@ -1,28 +1,28 @@
 -- A cycle keeps the lengths of the data memory, the disk and the frame, and the range of what they hold. Assumes nothing.
-use Prim.Native.Nat.{ℕ, zero, suc, _*_, _%_, _^_, _<_}
+use Prim.Native.Nat.{ℕ, _%_, _^_, _<_}
 use mathlib.Core.Path.{_≡_, refl, _∙_}
 use mathlib.Core.Bool.{Bool, _&&_}
-use mathlib.Core.List.{List, [], _∷_}
-use lib.Dec.{eqb, leb, ltb}
+use mathlib.Core.List.{List}
+use lib.Dec.{eqb, ltb}
 use lib.ListN.{length, set, length-set}
-use lib.Seq.{sets, length-sets}
-use Rattle.text.specs.Place.{put}
 use Rattle.text.specs.Ranges.{Below}
-use Rattle.text.proofs.RangeLaws.{below-part, holds-after}
+use Rattle.text.proofs.RangeLaws.{holds-after}
+use Rattle.devices.specs.Command.{taken}
+use Rattle.devices.proofs.FitLaws.{lengths-stepped, below-stepped}
 use Rattle.isa.specs.Word.{fieldsOf}
 use Rattle.isa.specs.Operations.{Operation, operationOf, calculate, branch, jal, lw, sw, reti, input, output, halt, unknown}
-use Rattle.isa.specs.Registers.{isListed, ioBits, diskcmd, diskstatus, diskbuffer, disksector, monitorcmd, monitoraddr, monitordata}
+use Rattle.isa.specs.Registers.{isListed, ioBits, diskcmd, diskstatus, monitorcmd, monitoraddr, monitordata}
 use Rattle.words.specs.Words.{holds, plus}
 use Rattle.machine.specs.declared.Core.{Core}
-use Rattle.machine.specs.State.{Machine, ioAt}
+use Rattle.machine.specs.State.{Machine, busOf, ioAt}
 use Rattle.machine.specs.Interrupts.{isRequested, irq2Raised, interrupted}
 use Rattle.machine.specs.declared.Operands.{Operands}
-use Rattle.machine.specs.Execution.{fetched, operandsOf, address, isFree, isReadOrWrite, sector, buffer, copied, attempted, commanded, painted, outputted, executed, fetchedAndExecuted}
-use Rattle.machine.specs.Cycle.{timerStepped, diskStepped, counted, atFetch, stepped}
+use Rattle.machine.specs.Execution.{fetched, operandsOf, address, commanded, painted, outputted, executed, fetchedAndExecuted}
+use Rattle.machine.specs.Cycle.{finished, atFetch, stepped}
 use Rattle.machine.specs.Soundness.{Sound}
 use Rattle.words.proofs.FitLaws.{wrapped}
 use Rattle.machine.proofs.SoundLaws.{sound-at-fetch}
-use Rattle.machine.proofs.Choice.{either}
+use Rattle.machine.proofs.Choice.{either, proceeds}
 
 -- The memories of s are as long as those of m.
 pub record KeepsLengths (m s : Machine) : Type 0 where
@@ -44,21 +44,9 @@ lengths-at-fetch hit m =
     and-then m (irq2Raised hit m) _ (either (KeepsLengths m) (hit) same same)
     (either (KeepsLengths (irq2Raised hit m)) (isRequested (irq2Raised hit m .io) && eqb (irq2Raised hit m .core .handler) 0) same same)
 
-lengths-copied : (command : ℕ) (m : Machine) → KeepsLengths m (copied command m)
-unfolding put
-lengths-copied command m =
-    either (KeepsLengths m) (eqb command 1)
-    (record { memory = length-sets (m .memory) (ioAt diskbuffer m) (sector m); disk = refl; frame = refl })
-    (record { memory = refl; disk = length-sets (m .disk) (128 * ioAt disksector m) (buffer m); frame = refl })
-
 lengths-commanded : (low : ℕ) (m : Machine) → KeepsLengths m (commanded low m)
-unfolding commanded attempted
-lengths-commanded low m =
-    let moved = lengths-copied low m in
-    either (KeepsLengths m) (isFree m)
-    (either (KeepsLengths m) (isReadOrWrite low)
-    (either (KeepsLengths m) (leb (ioAt diskbuffer m) 3968) (record { memory = moved .memory; disk = moved .disk; frame = moved .frame }) same) same)
-    same
+unfolding commanded
+lengths-commanded low m = proceeds (KeepsLengths m) (taken low (m .io)) _ same same
 
 lengths-painted : (x : ℕ) (m : Machine) → KeepsLengths m (painted x m)
 unfolding painted
@@ -95,18 +83,15 @@ lengths-executed unknown o m = same
 
 -- Over a whole cycle.
 pub lengths-kept : (image : List ℕ) (hit : Bool) (m : Machine) → KeepsLengths m (stepped image hit m)
-unfolding stepped counted diskStepped timerStepped fetchedAndExecuted
+unfolding stepped finished fetchedAndExecuted
 lengths-kept image hit m =
     let s = atFetch hit m in
     let f = fieldsOf (fetched image s) in
     let done = and-then m s _ (lengths-at-fetch hit m) (lengths-executed (operationOf (f .op)) (operandsOf f s) s) in
-    record { memory = done .memory; disk = done .disk; frame = done .frame }
+    let moved = lengths-stepped (m .core .drive .left) (busOf (executed (operationOf (f .op)) (operandsOf f s) s)) in
+    record { memory = moved .memory ∙ done .memory; disk = moved .disk ∙ done .disk; frame = done .frame }
 
 -- ---- ranges
-
-below-sets : (b : ℕ) (l : List ℕ) (i : ℕ) (xs : List ℕ) → Below b l → Below b xs → Below b (sets l i xs)
-below-sets b l i [] h hs = h
-below-sets b l i (x ∷ xs) h hs = below-sets b (set l i x) (suc i) xs (holds-after l i x (λ k v. v < b) h (hs zero)) (λ n. hs (suc n))
 
 -- "The data memory is 4,096 words of 32 bits, the disk 16,384 such words .., the frame 65,536 bytes": each fits.
 pub record Fits (m : Machine) : Type 0 where
@@ -123,19 +108,9 @@ fits-at-fetch hit m h =
     let raised = either Fits (hit) (fits h) h in
     either Fits (isRequested (irq2Raised hit m .io) && eqb (irq2Raised hit m .core .handler) 0) (fits raised) raised
 
-fits-copied : (command : ℕ) (m : Machine) → Fits m → Fits (copied command m)
-unfolding put
-fits-copied command m h =
-    let from-disk = below-part (2 ^ 32) 128 (128 * ioAt disksector m) (m .disk) (h .disk) in
-    let from-memory = below-part (2 ^ 32) 128 (ioAt diskbuffer m) (m .memory) (h .memory) in
-    either Fits (eqb command 1)
-    (record { memory = below-sets (2 ^ 32) (m .memory) (ioAt diskbuffer m) (sector m) (h .memory) from-disk; disk = h .disk; frame = h .frame })
-    (record { memory = h .memory; disk = below-sets (2 ^ 32) (m .disk) (128 * ioAt disksector m) (buffer m) (h .disk) from-memory; frame = h .frame })
-
 fits-commanded : (low : ℕ) (m : Machine) → Fits m → Fits (commanded low m)
-unfolding commanded attempted
-fits-commanded low m h =
-    either Fits (isFree m) (either Fits (isReadOrWrite low) (either Fits (leb (ioAt diskbuffer m) 3968) (fits (fits-copied low m h)) (fits h)) (fits h)) (fits h)
+unfolding commanded
+fits-commanded low m h = proceeds Fits (taken low (m .io)) _ (fits h) (fits h)
 
 fits-painted : (x : ℕ) (m : Machine) → ioAt monitordata m < 2 ^ 8 → Fits m → Fits (painted x m)
 unfolding painted
@@ -168,9 +143,11 @@ fits-executed unknown o m byte h = fits h
 
 -- Over a whole cycle of a machine whose record is sound.
 pub fits-kept : (image : List ℕ) (hit : Bool) (m : Machine) → Sound (m .core) (m .regs) (m .io) → Fits m → Fits (stepped image hit m)
-unfolding stepped counted diskStepped timerStepped fetchedAndExecuted ioBits
+unfolding stepped finished fetchedAndExecuted ioBits
 fits-kept image hit m sound h =
     let s = atFetch hit m in
     let f = fieldsOf (fetched image s) in
     let byte = sound-at-fetch (2 ^ 40) hit m (record { record-is = sound }) .record-is .fitting monitordata in
-    fits (fits-executed (operationOf (f .op)) (operandsOf f s) s byte (fits-at-fetch hit m h))
+    let done = fits-executed (operationOf (f .op)) (operandsOf f s) s byte (fits-at-fetch hit m h) in
+    let moved = below-stepped (2 ^ 32) (m .core .drive .left) (busOf (executed (operationOf (f .op)) (operandsOf f s) s)) (done .memory) (done .disk) in
+    record { memory = moved .0; disk = moved .1; frame = done .frame }

@@ -6,28 +6,29 @@ use mathlib.Core.List.{List}
 use native.Mathlib.Nat.{lt-of-lt-of-le, not-suc-le-zero, one-le-pow}
 use native.Mathlib.Omega.{arith}
 use lib.ListN.{length, getD, set, replicate, length-set}
-use lib.Dec.{eqb, leb, ltb}
-use lib.Seq.{getD-set-same, getD-set-other}
-use borrow.Author.Tests.{eqb-true, eqb-false, leb-true, ne-eqb}
-use Rattle.text.proofs.Truth.{and-left, and-right}
+use lib.Dec.{eqb, ltb}
+use borrow.Author.Tests.{eqb-true, eqb-false, ltb-true, ltb-false}
 use Rattle.isa.specs.Operations.{Operation, operationOf, calculate, branch, jal, lw, sw, reti, input, output, halt, unknown}
-use Rattle.isa.specs.Registers.{ioBits, isListed, irq0status, irq1status, irq2status, irqhandler, irqreturn, clks, timerenable, timercurrent, timermax, diskcmd, diskbuffer, diskstatus, monitorcmd}
-use Rattle.devices.specs.Timer.{timed}
-use Rattle.devices.specs.Disk.{freed}
-use Rattle.devices.proofs.DiskLaws.{length-freed, free-disk}
+use Rattle.isa.specs.Registers.{ioBits, isListed, irq2status, irqhandler, irqreturn, diskcmd, disksector, diskbuffer, diskstatus, monitorcmd}
+use Rattle.devices.specs.Command.{isFree, newDrive, taken, driveAfter, ioAfter}
+use Rattle.devices.specs.Transfer.{Keeps, Cycled, Busy}
+use Rattle.devices.specs.declared.Taken.the-variants.{Ignored}
+use Rattle.devices.proofs.DriveLaws.{drive-stays, left-falls as left-falls-one}
+use Rattle.devices.proofs.CommandLaws.{begins-busy}
+use Rattle.devices.proofs.SoundLaws.{sound-stepped, sound-taken, busy-ignores}
+use Rattle.devices.proofs.FitLaws.{Lets, holds-taken, holds-stepped, length-taken, lengths-stepped}
 use Rattle.isa.specs.Word.{signExtended, fieldsOf}
-use Rattle.words.specs.Words.{holds, plus}
-use Rattle.machine.specs.State.{Machine, freshCore, registers, putRegister, ioAt, putIo, withPc, withStatus, withHandler, withLeft, withRegs, withIo}
+use Rattle.words.specs.Words.{holds}
+use Rattle.machine.specs.State.{Machine, busOf, freshCore, registers, putRegister, ioAt, putIo, withPc, withStatus, withHandler, withDrive, withRegs, withIo}
 use Rattle.machine.specs.Interrupts.{isRequested, irq2Raised, interrupted}
 use Rattle.machine.specs.declared.Operands.{Operands}
-use Rattle.machine.specs.Execution.{fetched, operandsOf, address, isFree, isReadOrWrite, onward, jumped, ended, copied, begun, attempted, commanded, painted, outputted, executed, fetchedAndExecuted}
-use Rattle.machine.specs.Cycle.{acceptsAtFetch, atFetch, timerStepped, diskStepped, counted, stepped}
+use Rattle.machine.specs.Execution.{fetched, operandsOf, address, onward, jumped, ended, commanded, painted, outputted, executed, fetchedAndExecuted}
+use Rattle.machine.specs.Cycle.{acceptsAtFetch, commandAtFetch, atFetch, finished, stepped}
 use Rattle.machine.specs.Soundness.{fieldBits, SoundTo, Sound}
 use Rattle.words.proofs.FitLaws.{wrapped, calculated-lt}
-use Rattle.text.proofs.RangeLaws.{holds-after}
 use Rattle.machine.proofs.SoundParts.{sound-io, sound-core, sound-set, sound-core-to, field-bits-le, sign-lt}
-use Rattle.machine.proofs.DiskLaws.{command-free, left-at-fetch, left-kept, accepted-left, busy-left}
-use Rattle.machine.proofs.Choice.{either}
+use Rattle.machine.proofs.DiskLaws.{and-then, kept-at-fetch, kept-executed, command-free, accepted-does}
+use Rattle.machine.proofs.Choice.{either, proceeds}
 
 -- ---- the machine
 
@@ -41,6 +42,22 @@ all-zero (suc k) (suc n) = all-zero k n
 pub record SoundMachine (limit : ℕ) (m : Machine) : Type 0 where
   pub record-is : SoundTo limit (m .core) (m .regs) (m .io)
 
+-- What the devices write into the I/O registers fits them.
+abbrev Fits : ℕ → ℕ → Type 0
+Fits n v = v < 2 ^ fieldBits n
+
+lets-in : Lets Fits
+unfolding ioBits
+lets-in =
+    record {
+      timer-asks = omega arith;
+      current = λ x. wrapped 32 x;
+      disk-asks = omega arith;
+      command = omega arith;
+      status = omega arith;
+      clock = λ x. wrapped 32 x;
+    }
+
 module _ (limit : ℕ) where
   pc-set : (m : Machine) (x : ℕ) → x < 2 ^ 12 → SoundMachine limit m → SoundMachine limit (withPc x m)
   pc-set m x h s =
@@ -48,7 +65,7 @@ module _ (limit : ℕ) where
       record {
         record-is =
             sound-core limit (m .core) (m .regs) (m .io) (s .record-is) _
-            (record { status = k .status; handler = k .handler; pc = h; age = k .age; left = k .left }) refl;
+            (record { status = k .status; handler = k .handler; pc = h; age = k .age }) refl;
       }
 
   status-set : (m : Machine) (x : ℕ) → x ≤ 5 → SoundMachine limit m → SoundMachine limit (withStatus x m)
@@ -57,7 +74,7 @@ module _ (limit : ℕ) where
       record {
         record-is =
             sound-core limit (m .core) (m .regs) (m .io) (s .record-is) _
-            (record { status = h; handler = k .handler; pc = k .pc; age = k .age; left = k .left }) refl;
+            (record { status = h; handler = k .handler; pc = k .pc; age = k .age }) refl;
       }
 
   handler-set : (m : Machine) (x : ℕ) → x < 2 → SoundMachine limit m → SoundMachine limit (withHandler x m)
@@ -66,7 +83,7 @@ module _ (limit : ℕ) where
       record {
         record-is =
             sound-core limit (m .core) (m .regs) (m .io) (s .record-is) _
-            (record { status = k .status; handler = h; pc = k .pc; age = k .age; left = k .left }) refl;
+            (record { status = k .status; handler = h; pc = k .pc; age = k .age }) refl;
       }
 
   register-put : (m : Machine) (n x : ℕ) → x < 2 ^ 32 → SoundMachine limit m → SoundMachine limit (putRegister n x m)
@@ -111,76 +128,27 @@ module _ (limit : ℕ) where
   operand-lt m i j (suc (suc zero)) hi hj s = sign-lt j hj
   operand-lt m i j (suc (suc (suc n))) hi hj s = s .record-is .registers n
 
-  -- A command leaves the disk busy.
-  sound-begun : (m : Machine) (low : ℕ) → 1 ≤ low → low ≤ 2 → SoundMachine limit m → SoundMachine limit (begun low m)
-  unfolding ioBits
-  sound-begun m low some few s =
-      let moved = either (SoundMachine limit) (eqb low 1) (record { record-is = s .record-is }) (record { record-is = s .record-is }) in
-      build (copied low m) moved
-    where
-      build : (d : Machine) → SoundMachine limit d → SoundMachine limit (withLeft 1024 (putIo diskstatus 1 (putIo diskcmd low d)))
-      build d s =
-          let r = s .record-is in
-          let k = r .core in
-          let all : length (d .io) ≡ 23 = r .all in
-          record {
-            record-is =
-                record {
-                  core = record { status = k .status; handler = k .handler; pc = k .pc; age = k .age; left = omega arith };
-                  thirteen = r .thirteen;
-                  registers = r .registers;
-                  all = simp length-set (r .all);
-                  fitting =
-                      holds-after (set (d .io) diskcmd low) diskstatus 1 (λ n v. v < 2 ^ fieldBits n)
-                      (holds-after (d .io) diskcmd low (λ n v. v < 2 ^ fieldBits n) (r .fitting) (omega arith)) (omega arith);
-                  disk =
-                      record {
-                        busy =
-                            λ h.
-                            let status = getD-set-same (set (d .io) diskcmd low) diskstatus 1 0 (simp length-set (omega arith)) in
-                            let command = getD-set-other (set (d .io) diskcmd low) diskstatus diskcmd 1 0 (omega arith) ∙ getD-set-same (d .io) diskcmd low 0 (omega arith) in
-                            (status, rw command some, rw command few);
-                        free = λ e. absurd (omega arith);
-                      };
-                };
-          }
-
-  -- A free disk takes no command.
-  sound-cleared : (m : Machine) → isFree m ≡ true → SoundMachine limit m → SoundMachine limit (putIo diskcmd 0 m)
-  unfolding ioBits
-  sound-cleared m free s =
+  -- An out to diskcmd.
+  sound-commanded : (low : ℕ) (m : Machine) → low < 4 → SoundMachine limit m → SoundMachine limit (commanded low m)
+  unfolding commanded ioBits
+  sound-commanded low m less s =
       let r = s .record-is in
-      let zero-status = eqb-true (ioAt diskstatus m) 0 free in
+      let k = r .core in
       let all : length (m .io) ≡ 23 = r .all in
-      let status = getD-set-other (m .io) diskcmd diskstatus 0 0 (omega arith) in
-      record {
+      let t = taken low (m .io) in
+      let u = withDrive (driveAfter t (m .core .drive)) (withIo (ioAfter low t (m .io)) m) in
+      let done : SoundMachine limit u = record {
         record-is =
             record {
-              core = r .core;
+              core = record { status = k .status; handler = k .handler; pc = k .pc; age = k .age };
               thirteen = r .thirteen;
               registers = r .registers;
-              all = length-set (m .io) diskcmd 0 ∙ r .all;
-              fitting = holds-after (m .io) diskcmd 0 (λ n v. v < 2 ^ fieldBits n) (r .fitting) (omega arith);
-              disk =
-                  record {
-                    busy = λ h. absurd (let one = r .disk .busy h .0 in omega arith);
-                    free = λ e. (status ∙ zero-status, getD-set-same (m .io) diskcmd 0 0 (omega arith));
-                  };
+              all = length-taken low t (m .io) ∙ all;
+              fitting = holds-taken Fits lets-in low t (m .io) less (omega arith) (r .fitting);
+              disk = sound-taken low (m .core .drive) (m .io) (omega arith) (r .disk) (r .fitting disksector);
             };
-      }
-
-  sound-commanded : (low : ℕ) (m : Machine) → SoundMachine limit m → SoundMachine limit (commanded low m)
-  unfolding commanded attempted
-  sound-commanded low m s = go (isFree m) refl (isReadOrWrite low) refl
-    where
-      go : (a : Bool) → isFree m ≡ a → (b : Bool) → isReadOrWrite low ≡ b
-          → SoundMachine limit (cond a (cond b (cond (leb (ioAt diskbuffer m) 3968) (onward (begun low m)) (ended 5 m)) (onward (putIo diskcmd 0 m))) (onward m))
-      go true e true q =
-          let some = leb-true 1 low (and-left (leb 1 low) (leb low 2) q) in
-          let few = leb-true low 2 (and-right (leb 1 low) (leb low 2) q) in
-          either (SoundMachine limit) (leb (ioAt diskbuffer m) 3968) (went-on _ (sound-begun m low some few s)) (status-set m 5 (omega arith) s)
-      go true e false q = went-on _ (sound-cleared m e s)
-      go false e b q = went-on m s
+      } in
+      proceeds (SoundMachine limit) t u (went-on u done) (status-set u 5 (omega arith) done)
 
   sound-outputted : (a x : ℕ) (m : Machine) → SoundMachine limit m → SoundMachine limit (outputted a x m)
   unfolding outputted painted
@@ -188,7 +156,7 @@ module _ (limit : ℕ) where
     where
       go : (t : Bool) → eqb a diskcmd ≡ t → (u : Bool) → eqb a diskstatus ≡ u → (v : Bool) → eqb a monitorcmd ≡ v
           → SoundMachine limit (cond t (commanded (x % 4) m) (onward (cond u m (cond v (painted x m) (putIo a (x % 2 ^ ioBits a) m)))))
-      go true e u f v g = sound-commanded (x % 4) m s
+      go true e u f v g = sound-commanded (x % 4) m (omega arith) s
       go false e true f v g = went-on m s
       go false e false f true g = went-on _ (either (SoundMachine limit) (eqb (x % 2) 1) (record { record-is = s .record-is }) s)
       go false e false f false g = went-on _ (io-put m a (x % 2 ^ ioBits a) (rw g (wrapped (ioBits a) x)) (eqb-false a diskcmd e) (eqb-false a diskstatus f) s)
@@ -222,75 +190,21 @@ module _ (limit : ℕ) where
 
   -- ---- steps 5 to 7
 
-  sound-timer : (m : Machine) → SoundMachine limit m → SoundMachine limit (timerStepped m)
-  unfolding timerStepped timed ioBits
-  sound-timer m s = go (eqb (ioAt timerenable m) 1) (eqb (ioAt timercurrent m) (ioAt timermax m))
-    where
-      go : (a b : Bool)
-          → SoundMachine limit (withIo (cond a (cond b (set (set (m .io) irq0status 1) timercurrent 0) (set (m .io) timercurrent ((ioAt timercurrent m + 1) % 2 ^ 32))) (m .io)) m)
-      go true true =
-          io-put (putIo irq0status 1 m) timercurrent 0 (omega arith) (λ e. omega arith) (λ e. omega arith)
-          (io-put m irq0status 1 (omega arith) (λ e. omega arith) (λ e. omega arith) s)
-      go true false = io-put m timercurrent _ (wrapped 32 _) (λ e. omega arith) (λ e. omega arith) s
-      go false b = record { record-is = s .record-is }
-
-  sound-disk : (began : ℕ) (m : Machine) → SoundMachine limit m → SoundMachine limit (diskStepped began m)
-  unfolding diskStepped freed ioBits
-  sound-disk began m s = go (ltb 0 began) (eqb (m .core .left - 1) 0) refl
-    where
-      go : (t u : Bool) → eqb (m .core .left - 1) 0 ≡ u
-          → SoundMachine limit (withLeft (cond t (m .core .left - 1) (m .core .left)) (withIo (cond t (cond u (freed (m .io)) (m .io)) (m .io)) m))
-      go false u e = record { record-is = s .record-is }
-      go true true e =
-          let r = s .record-is in
-          let k = r .core in
-          let none = eqb-true (m .core .left - 1) 0 e in
-          let all : length (m .io) ≡ 23 = r .all in
-          let gone = free-disk (m .io) (omega arith) in
-          record {
-            record-is =
-                record {
-                  core = record { status = k .status; handler = k .handler; pc = k .pc; age = k .age; left = omega (arith, k .left) };
-                  thirteen = r .thirteen;
-                  registers = r .registers;
-                  all = length-freed (m .io) ∙ r .all;
-                  fitting =
-                      holds-after (set (set (m .io) diskcmd 0) diskstatus 0) irq1status 1 (λ n v. v < 2 ^ fieldBits n)
-                      (holds-after (set (m .io) diskcmd 0) diskstatus 0 (λ n v. v < 2 ^ fieldBits n) (holds-after (m .io) diskcmd 0 (λ n v. v < 2 ^ fieldBits n) (r .fitting) (omega arith)) (omega arith))
-                      (omega arith);
-                  disk = record { busy = λ h. absurd (omega arith); free = λ q. (gone .1, gone .0) };
-                };
-          }
-      go true false e =
-          let r = s .record-is in
-          let k = r .core in
-          let more = eqb-false (m .core .left - 1) 0 e in
-          record {
-            record-is =
-                record {
-                  core = record { status = k .status; handler = k .handler; pc = k .pc; age = k .age; left = omega (arith, k .left) };
-                  thirteen = r .thirteen;
-                  registers = r .registers;
-                  all = r .all;
-                  fitting = r .fitting;
-                  disk = record { busy = λ h. r .disk .busy (omega arith); free = λ q. absurd (more q) };
-                };
-          }
-
-  sound-counted : (m : Machine) → SoundMachine limit m → SoundMachine (limit + 1) (counted m)
-  unfolding counted ioBits
-  sound-counted m s =
-      let r = io-put m clks (plus (ioAt clks m) 1) (wrapped 32 _) (λ e. omega arith) (λ e. omega arith) s .record-is in
+  sound-finished : (began : ℕ) (m : Machine) → SoundMachine limit m → SoundMachine (limit + 1) (finished began m)
+  unfolding finished
+  sound-finished began m s =
+      let r = s .record-is in
       let k = r .core in
+      let all : length (m .io) ≡ 23 = r .all in
       record {
         record-is =
             record {
-              core = record { status = k .status; handler = k .handler; pc = k .pc; age = omega (arith, k .age); left = k .left };
+              core = record { status = k .status; handler = k .handler; pc = k .pc; age = omega (arith, k .age) };
               thirteen = r .thirteen;
               registers = r .registers;
-              all = r .all;
-              fitting = r .fitting;
-              disk = r .disk;
+              all = lengths-stepped began (busOf m) .io ∙ all;
+              fitting = holds-stepped Fits lets-in began (busOf m) (r .fitting);
+              disk = sound-stepped began (busOf m) (omega arith) (r .disk);
             };
       }
 
@@ -298,7 +212,7 @@ module _ (limit : ℕ) where
 
   pub sound-cycle-to : (image : List ℕ) (hit : Bool) (m : Machine) → SoundMachine limit m → SoundMachine (limit + 1) (stepped image hit m)
   unfolding stepped
-  sound-cycle-to image hit m s = sound-counted _ (sound-disk (m .core .left) _ (sound-timer _ (sound-fetched image _ (sound-at-fetch hit m s))))
+  sound-cycle-to image hit m s = sound-finished (m .core .drive .left) _ (sound-fetched image _ (sound-at-fetch hit m s))
 
 -- A sound machine that is not at the cycle limit is sound after a cycle, whatever the image, the irq2 list and the memories.
 pub sound-cycle : (image : List ℕ) (hit : Bool) (m : Machine) → SoundMachine (2 ^ 40) m → m .core .age < 2 ^ 40 - 1 → SoundMachine (2 ^ 40) (stepped image hit m)
@@ -309,61 +223,82 @@ sound-cycle image hit m s young =
     (record {
       record-is =
           sound-core-to r
-          (record { status = k .status; handler = k .handler; pc = k .pc; age = young; left = k .left });
+          (record { status = k .status; handler = k .handler; pc = k .pc; age = young });
     })
 
 -- The fresh record is sound.
 pub sound-fresh : Sound freshCore (replicate 13 0) (replicate 23 0)
 sound-fresh =
     record {
-      core = record { status = zero-le; handler = omega arith; pc = omega arith; age = omega arith; left = zero-le };
+      core = record { status = zero-le; handler = omega arith; pc = omega arith; age = omega arith };
       thirteen = refl;
       registers = λ n. rw (all-zero 13 n) (omega arith);
       all = refl;
       fitting = λ n. rw (all-zero 23 n) (one-le-pow (fieldBits n) 2 (omega arith));
-      disk = record { busy = λ h. absurd (not-suc-le-zero h); free = λ e. (refl, refl) };
+      disk = record { left = zero-le; sector = zero-le; buffer = zero-le; busy = λ h. absurd (not-suc-le-zero h); free = λ e. (refl, refl, refl, refl) };
     }
 
 -- ---- the disk of a sound machine
 
 module _ (limit : ℕ) (image : List ℕ) (hit : Bool) (m : Machine) (s : SoundMachine limit m) where
-  -- While cycles are to go each cycle takes one, whatever it does.
-  pub left-falls : 0 < m .core .left → stepped image hit m .core .left ≡ m .core .left - 1
-  left-falls going =
-      let at = sound-at-fetch limit hit m s .record-is in
-      let one = at .disk .busy (rw (left-at-fetch hit m .same) going) .0 in
-      busy-left image hit m going (ne-eqb (ioAt diskstatus (atFetch hit m)) 0 (λ e. omega arith))
+  at-fetch-all : length (atFetch hit m .io) ≡ 23
+  at-fetch-all = sound-at-fetch limit hit m s .record-is .all
 
-  -- A disk that an instruction finds free has no cycles to go.
-  free-idle : isFree (atFetch hit m) ≡ true → m .core .left ≡ 0
-  free-idle free = go (eqb (m .core .left) 0) refl
-    where
-      go : (t : Bool) → eqb (m .core .left) 0 ≡ t → m .core .left ≡ 0
-      go true e = eqb-true (m .core .left) 0 e
-      go false e =
-          let none = eqb-true (ioAt diskstatus (atFetch hit m)) 0 free in
-          let more = eqb-false (m .core .left) 0 e in
-          let some : 0 < m .core .left = omega arith in
-          let one = sound-at-fetch limit hit m s .record-is .disk .busy (rw (left-at-fetch hit m .same) some) .0 in
-          absurd (omega arith)
-
-  -- A command that is accepted leaves 1,024 of them.
-  pub left-accepted : acceptsAtFetch image (atFetch hit m) ≡ true → stepped image hit m .core .left ≡ 1024
-  unfolding acceptsAtFetch
-  left-accepted h =
+  -- While it is busy, steps 1 to 4 keep what devices asks.
+  keeps-busy : 0 < m .core .drive .left → Keeps (busOf m) (busOf (fetchedAndExecuted image (atFetch hit m)))
+  unfolding fetchedAndExecuted
+  keeps-busy h =
       let d = atFetch hit m in
       let f = fieldsOf (fetched image d) in
-      accepted-left image hit m (free-idle (command-free (operationOf (f .op)) (operandsOf f d) d h)) h
+      let a = kept-at-fetch hit m in
+      let all = at-fetch-all in
+      let ignored : (low : ℕ) → taken low (d .io) ≡ Ignored = λ low. busy-ignores low (d .core .drive) (d .io) (omega arith) (sound-at-fetch limit hit m s .record-is .disk) (rw (a .keeps .drive) h) in
+      and-then m d _ a (kept-executed (operationOf (f .op)) (operandsOf f d) d ignored) .keeps
 
-  -- No instruction takes one.
-  pub left-not-less : m .core .left ≤ fetchedAndExecuted image (atFetch hit m) .core .left
-  unfolding fetchedAndExecuted
-  left-not-less = go (isFree (atFetch hit m)) refl
+  -- This computer's cycle, as devices sees it.
+  pub cycled : Cycled (busOf m) (busOf (fetchedAndExecuted image (atFetch hit m))) (busOf (stepped image hit m))
+  unfolding stepped finished
+  cycled =
+      let all = sound-fetched limit image (atFetch hit m) (sound-at-fetch limit hit m s) .record-is .all in
+      record { all = omega arith; keeps = keeps-busy; ends = refl }
+
+  -- While cycles are to go each cycle takes one, whatever it does.
+  pub left-falls : 0 < m .core .drive .left → stepped image hit m .core .drive .left ≡ m .core .drive .left - 1
+  left-falls going = left-falls-one (busOf m) _ _ cycled going
+
+  -- A disk that an instruction finds free has no cycles to go.
+  free-idle : isFree (atFetch hit m .io) ≡ true → m .core .drive .left ≡ 0
+  free-idle free = go (eqb (m .core .drive .left) 0) refl
     where
-      go : (t : Bool) → isFree (atFetch hit m) ≡ t → m .core .left ≤ fetchedAndExecuted image (atFetch hit m) .core .left
-      go true free = rw (free-idle free) zero-le
-      go false busy =
-          let d = atFetch hit m in
-          let f = fieldsOf (fetched image d) in
-          let same = left-kept (operationOf (f .op)) (operandsOf f d) d busy .same ∙ left-at-fetch hit m .same in
-          rw same (omega arith)
+      go : (t : Bool) → eqb (m .core .drive .left) 0 ≡ t → m .core .drive .left ≡ 0
+      go true e = eqb-true (m .core .drive .left) 0 e
+      go false e =
+          let none = eqb-true (ioAt diskstatus (atFetch hit m)) 0 free in
+          let more = eqb-false (m .core .drive .left) 0 e in
+          let some : 0 < m .core .drive .left = omega arith in
+          let one = sound-at-fetch limit hit m s .record-is .disk .busy (rw (kept-at-fetch hit m .keeps .drive) some) .0 in
+          absurd (omega arith)
+
+  -- A command that is accepted finds the disk free and takes sector and buffer; 1,024 cycles are to go then.
+  module _ (h : acceptsAtFetch image (atFetch hit m) ≡ true) where
+    pub was-free : m .core .drive .left ≡ 0
+    unfolding acceptsAtFetch
+    was-free = let d = atFetch hit m in let f = fieldsOf (fetched image d) in free-idle (command-free (operationOf (f .op)) (operandsOf f d) d h)
+
+    pub drive-accepted : stepped image hit m .core .drive ≡ newDrive (atFetch hit m .io)
+    drive-accepted = drive-stays (busOf m) _ _ cycled was-free ∙ accepted-does image (atFetch hit m) h .0
+
+    -- The disk is busy with it.
+    pub busy-accepted : Busy 1024 (commandAtFetch image (atFetch hit m)) (ioAt disksector (atFetch hit m)) (ioAt diskbuffer (atFetch hit m)) (busOf (stepped image hit m))
+    busy-accepted =
+        let does = accepted-does image (atFetch hit m) h in
+        let all = at-fetch-all in
+        begins-busy (commandAtFetch image (atFetch hit m)) (atFetch hit m .io) (busOf m) _ _ cycled was-free (omega arith) (does .0) (does .1)
+
+  -- No instruction makes left less.
+  pub left-not-less : m .core .drive .left ≤ fetchedAndExecuted image (atFetch hit m) .core .drive .left
+  left-not-less = go (ltb 0 (m .core .drive .left)) refl
+    where
+      go : (t : Bool) → ltb 0 (m .core .drive .left) ≡ t → m .core .drive .left ≤ fetchedAndExecuted image (atFetch hit m) .core .drive .left
+      go true e = rw (keeps-busy (ltb-true 0 (m .core .drive .left) e) .drive) (omega arith)
+      go false e = let none = ltb-false 0 (m .core .drive .left) e in omega arith

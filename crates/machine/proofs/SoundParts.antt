@@ -7,13 +7,13 @@ use native.Mathlib.Nat.{pow-le-pow-right}
 use native.Mathlib.Omega.{arith}
 use lib.ListN.{length, getD, set, length-set}
 use lib.Dec.{eqb, leb, ltb}
-use lib.Seq.{getD-set-same, getD-set-other, set-out}
 use borrow.Author.Tests.{eqb-true, eqb-false, leb-true, leb-false, ltb-true, ltb-false}
 use Rattle.text.proofs.Truth.{below}
 use Rattle.text.proofs.RangeLaws.{holds-after}
 use Rattle.isa.specs.Registers.{ioBits, diskcmd, diskstatus, monitorcmd}
 use Rattle.isa.specs.Word.{signExtended}
 use Rattle.isa.proofs.IoLaws.{no-bits-above}
+use Rattle.devices.proofs.SoundLaws.{sound-set as sound-other}
 use Rattle.machine.specs.declared.Core.{Core}
 use Rattle.machine.specs.State.{registers}
 use Rattle.machine.specs.Soundness.{fieldBits, SoundCore, SoundTo}
@@ -30,15 +30,11 @@ module _ (limit : ℕ) (c : Core) (regs io : List ℕ) (s : SoundTo limit c regs
         registers = s .registers;
         all = length-set io n x ∙ s .all;
         fitting = holds-after io n x (λ k v. v < 2 ^ fieldBits k) (s .fitting) fits;
-        disk =
-            record {
-              busy = rw (getD-set-other io n diskstatus x 0 (λ e. b (sym e)), getD-set-other io n diskcmd x 0 (λ e. a (sym e))) (s .disk .busy);
-              free = rw (getD-set-other io n diskstatus x 0 (λ e. b (sym e)), getD-set-other io n diskcmd x 0 (λ e. a (sym e))) (s .disk .free);
-            };
+        disk = sound-other (c .drive) io n x a b (s .disk);
       }
 
-  -- The scalars may change, but for left.
-  pub sound-core : (d : Core) → SoundCore limit d → d .left ≡ c .left → SoundTo limit d regs io
+  -- The scalars may change, but for the drive.
+  pub sound-core : (d : Core) → SoundCore limit d → d .drive ≡ c .drive → SoundTo limit d regs io
   sound-core d k e =
       record { core = k; thirteen = s .thirteen; registers = s .registers; all = s .all; fitting = s .fitting; disk = rw e (s .disk) }
 

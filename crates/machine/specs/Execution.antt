@@ -1,17 +1,19 @@
 -- Steps 3 and 4 of a cycle: fetch and execute.
-use Prim.Native.Nat.{ℕ, _+_, _*_, _%_, _^_}
-use mathlib.Core.Bool.{Bool, cond, _&&_}
+use Prim.Native.Nat.{ℕ, _+_, _%_, _^_}
+use mathlib.Core.Bool.{cond}
 use mathlib.Core.List.{List}
-use lib.Dec.{eqb, ltb, leb}
-use lib.ListN.{getD, set, take, drop}
-use Rattle.text.specs.Place.{put}
+use lib.Dec.{eqb, ltb}
+use lib.ListN.{getD, set}
 use Rattle.isa.specs.declared.Fields.{Fields}
 use Rattle.isa.specs.Word.{fieldsOf, signExtended}
 use Rattle.isa.specs.Operations.{Operation, operationOf, calculate, branch, jal, lw, sw, reti, input, output, halt, unknown}
-use Rattle.isa.specs.Registers.{isListed, ioBits, irqreturn, diskcmd, disksector, diskbuffer, diskstatus, monitoraddr, monitordata, monitorcmd}
+use Rattle.isa.specs.Registers.{isListed, ioBits, irqreturn, diskcmd, diskstatus, monitoraddr, monitordata, monitorcmd}
+use Rattle.devices.specs.declared.Taken.{Taken}
+use Rattle.devices.specs.declared.Taken.the-variants.{Ignored, Cleared, Accepted, NoRoom}
+use Rattle.devices.specs.Command.{taken, driveAfter, ioAfter}
 use Rattle.machine.specs.declared.Operands.{Operands}
 use Rattle.words.specs.Words.{plus, calculated, holds}
-use Rattle.machine.specs.State.{Machine, registers, putRegister, ioAt, putIo, withStatus, withPc, withHandler, withLeft, withMemory, withDisk, withFrame}
+use Rattle.machine.specs.State.{Machine, registers, putRegister, ioAt, putIo, withStatus, withPc, withHandler, withDrive, withIo, withMemory, withFrame}
 
 -- ---- 3. Fetch
 
@@ -48,42 +50,18 @@ jumped to m = withPc (to % 4096) m
 abbrev pub ended : ℕ → Machine → Machine
 ended status m = withStatus status m
 
--- "The disk is free when diskstatus is 0."
-abbrev pub isFree : Machine → Bool
-isFree m = eqb (ioAt diskstatus m) 0
+-- "5 diskbuffer above 3968 at a disk command, which is then not accepted"
+abbrev pub proceeded : Taken → Machine → Machine
+proceeded Ignored m = onward m
+proceeded Cleared m = onward m
+proceeded (Accepted d) m = onward m
+proceeded NoRoom m = ended 5 m
 
--- The words of sector disksector, and the words of M from diskbuffer up that it is copied to or from.
-abbrev pub sector : Machine → List ℕ
-sector m = take 128 (drop (128 * ioAt disksector m) (m .disk))
-
-abbrev pub buffer : Machine → List ℕ
-buffer m = take 128 (drop (ioAt diskbuffer m) (m .memory))
-
--- "A read command copies sector disksector to M from diskbuffer up, a write command copies back, whole, in this step". 1 is read, 2 write.
-abbrev pub copied : ℕ → Machine → Machine
-copied command m =
-    cond (eqb command 1) (withMemory (put (m .memory) (ioAt diskbuffer m) (sector m)) m) (withDisk (put (m .disk) (128 * ioAt disksector m) (buffer m)) m)
-
--- "1 (read) or 2 (write)"
-abbrev pub isReadOrWrite : ℕ → Bool
-isReadOrWrite low = leb 1 low && leb low 2
-
--- "left = 1024, diskstatus = 1", and diskcmd holds the command.
-abbrev pub begun : ℕ → Machine → Machine
-begun command m = withLeft 1024 (putIo diskstatus 1 (putIo diskcmd command (copied command m)))
-
--- A sector from diskbuffer up lies within M.
-abbrev pub hasRoom : Machine → Bool
-hasRoom m = leb (ioAt diskbuffer m) 3968
-
--- A read or write that finds the disk free: "5 diskbuffer above 3968 at a disk command, which is then not accepted".
-unfoldable pub attempted : ℕ → Machine → Machine
-attempted command m = cond (hasRoom m) (onward (begun command m)) (ended 5 m)
-
--- "diskcmd ignores writes while diskstatus is 1; free, it takes 1 (read) or 2 (write) as a command and stores 0 for 0 or 3". `low` are the
--- low bits.
+-- out to diskcmd; `low` are the low bits.
 unfoldable pub commanded : ℕ → Machine → Machine
-commanded low m = cond (isFree m) (cond (isReadOrWrite low) (attempted low m) (onward (putIo diskcmd 0 m))) (onward m)
+commanded low m =
+    let t = taken low (m .io) in
+    proceeded t (withDrive (driveAfter t (m .core .drive)) (withIo (ioAfter low t (m .io)) m))
 
 -- "monitorcmd always holds 0; writing an odd value sets frame[monitoraddr] to monitordata."
 unfoldable pub painted : ℕ → Machine → Machine

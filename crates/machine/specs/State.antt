@@ -4,10 +4,12 @@ use mathlib.Core.Bool.{cond}
 use mathlib.Core.List.{List, _∷_}
 use lib.Dec.{ltb}
 use lib.ListN.{getD, set, replicate}
+use Rattle.devices.specs.declared.Drive.{Drive}
+use Rattle.devices.specs.Bus.{Bus, bus, freeDrive}
 use Rattle.machine.specs.declared.Core.{Core}
 
--- "The record: status, handler flag, PC, age (cycles done, 40 bits), left (disk cycles to go), R3 to R15, the I/O registers": its scalars,
--- its registers and its I/O registers by number; and the data memory, the disk and the frame.
+-- "The record: status, handler flag, PC, age (cycles done, 40 bits), left (disk cycles to go), R3 to R15, the I/O registers", "after `left` come that
+-- sector (7 bits) and buffer (12)": its scalars, its registers and its I/O registers by number; and the data memory, the disk and the frame.
 pub record Machine : Type 0 where
   pub core : Core
   pub regs : List ℕ
@@ -18,7 +20,7 @@ pub record Machine : Type 0 where
 
 -- "Fresh means all zero."
 abbrev pub freshCore : Core
-freshCore = record { status = 0; handler = 0; pc = 0; age = 0; left = 0 }
+freshCore = record { status = 0; handler = 0; pc = 0; age = 0; drive = freeDrive }
 
 abbrev pub freshMachine : List ℕ → List ℕ → List ℕ → Machine
 freshMachine memory disk frame =
@@ -27,19 +29,19 @@ freshMachine memory disk frame =
 -- ---- one part changed
 
 abbrev pub coreStatus : ℕ → Core → Core
-coreStatus x c = record { status = x; handler = c .handler; pc = c .pc; age = c .age; left = c .left }
+coreStatus x c = record { status = x; handler = c .handler; pc = c .pc; age = c .age; drive = c .drive }
 
 abbrev pub coreHandler : ℕ → Core → Core
-coreHandler x c = record { status = c .status; handler = x; pc = c .pc; age = c .age; left = c .left }
+coreHandler x c = record { status = c .status; handler = x; pc = c .pc; age = c .age; drive = c .drive }
 
 abbrev pub corePc : ℕ → Core → Core
-corePc x c = record { status = c .status; handler = c .handler; pc = x; age = c .age; left = c .left }
+corePc x c = record { status = c .status; handler = c .handler; pc = x; age = c .age; drive = c .drive }
 
 abbrev pub coreAge : ℕ → Core → Core
-coreAge x c = record { status = c .status; handler = c .handler; pc = c .pc; age = x; left = c .left }
+coreAge x c = record { status = c .status; handler = c .handler; pc = c .pc; age = x; drive = c .drive }
 
-abbrev pub coreLeft : ℕ → Core → Core
-coreLeft x c = record { status = c .status; handler = c .handler; pc = c .pc; age = c .age; left = x }
+abbrev pub coreDrive : Drive → Core → Core
+coreDrive x c = record { status = c .status; handler = c .handler; pc = c .pc; age = c .age; drive = x }
 
 abbrev pub withCore : Core → Machine → Machine
 withCore x m = record { core = x; regs = m .regs; io = m .io; memory = m .memory; disk = m .disk; frame = m .frame }
@@ -56,8 +58,8 @@ withPc x m = withCore (corePc x (m .core)) m
 abbrev pub withAge : ℕ → Machine → Machine
 withAge x m = withCore (coreAge x (m .core)) m
 
-abbrev pub withLeft : ℕ → Machine → Machine
-withLeft x m = withCore (coreLeft x (m .core)) m
+abbrev pub withDrive : Drive → Machine → Machine
+withDrive x m = withCore (coreDrive x (m .core)) m
 
 abbrev pub withRegs : List ℕ → Machine → Machine
 withRegs x m = record { core = m .core; regs = x; io = m .io; memory = m .memory; disk = m .disk; frame = m .frame }
@@ -73,6 +75,14 @@ withDisk x m = record { core = m .core; regs = m .regs; io = m .io; memory = m .
 
 abbrev pub withFrame : List ℕ → Machine → Machine
 withFrame x m = record { core = m .core; regs = m .regs; io = m .io; memory = m .memory; disk = m .disk; frame = x }
+
+-- ---- what the devices act on
+
+abbrev pub busOf : Machine → Bus
+busOf m = bus (m .core .drive) (m .io) (m .memory) (m .disk)
+
+abbrev pub withBus : Bus → Machine → Machine
+withBus b m = record { core = coreDrive (b .drive) (m .core); regs = m .regs; io = b .io; memory = b .memory; disk = b .disk; frame = m .frame }
 
 -- ---- registers
 

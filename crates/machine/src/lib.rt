@@ -1,12 +1,16 @@
 // The record of the machine, and what an instruction works on. What a cycle does with them stands in specs/.
 
-// The record's scalars: status, handler flag, PC, age (cycles done) and left (disk cycles to go).
+use devices::Drive;
+
+pub mod scalars;
+
+// The record's scalars: status, handler flag, PC, age (cycles done) and the disk's part.
 pub struct Core {
     pub status: u32,
     pub handler: u32,
     pub pc: u32,
     pub age: u64,
-    pub left: u32,
+    pub drive: Drive,
 }
 
 // The record: the scalars, R3 to R15, and the I/O registers by number (18, 19 and 22 hold 0).

@@ -1,20 +1,20 @@
 -- The record that reading hands back is sound, and what is refused is not. Assumes nothing.
 use Prim.Native.Nat.{ℕ, _≤_, _<_}
-use mathlib.Core.Path.{_≡_, refl, sym, _∙_, ap}
+use mathlib.Core.Path.{_≡_, sym, _∙_, ap}
 use mathlib.Core.Bool.{Bool, true, false}
-use mathlib.Core.List.{List, [], _∷_}
+use mathlib.Core.List.{List}
 use native.Mathlib.Omega.{arith}
 use lib.Dec.{eqb}
-use lib.ListN.{length, take, getD}
+use lib.ListN.{length, take}
 use borrow.Author.Tests.{eqb-true, eq-eqb, ne-eqb}
 use Rattle.text.specs.declared.Outcome.{Outcome}
-use Rattle.text.specs.Questions.{accepted, firstNo, unlessRefused}
-use Rattle.text.proofs.QuestionLaws.{first-yes}
+use Rattle.text.specs.Questions.{accepted}
+use Rattle.text.proofs.QuestionLaws.{first-yes, by-number}
 use Rattle.machine.specs.declared.Record.{Record}
 use Rattle.machine.specs.Soundness.{Sound}
 use Rattle.saved.specs.Sound.{isSound}
-use Rattle.saved.specs.Layout.{edition, recordBytes, recordOf, savedFields}
-use Rattle.saved.specs.Calls.{freshRecord, saveOutcome, loadOutcome, loadRecord}
+use Rattle.saved.specs.Layout.{recordBytes}
+use Rattle.saved.specs.Calls.{freshRecord, saveOutcome, loadQuestions, loadOutcome, loadRecord}
 use Rattle.saved.proofs.TripLaws.{load-sound}
 use Rattle.memories.specs.declared.RecordRead.{RecordRead}
 use Rattle.memories.specs.Records.{ReadFrom, FrontLoaded, LoadedIf, SoundRead, FreshRead}
@@ -34,25 +34,20 @@ module _ (bytes : List ℕ) {t : Outcome} (outcome : t ≡ loadOutcome bytes) wh
       let no = ne-eqb (loadOutcome bytes .number) 0 (λ e. some (ap (λ (t : Outcome). t .number) outcome ∙ e)) in
       record { read = fresh .read ∙ sym no; is = fresh .state ∙ rw no; sound = fresh .sound }
 
--- Files of other lengths than a record's are refused alike, whatever their bytes, ..
-wrong-lengths : (a b : List ℕ) {r : RecordRead} → (length a ≡ recordBytes → ⊥) → (length b ≡ recordBytes → ⊥) → ReadFrom a r → ReadFrom b r
-wrong-lengths a b wrong-a wrong-b from =
-    let no-a = ne-eqb (length a) recordBytes wrong-a in
-    let no-b = ne-eqb (length b) recordBytes wrong-b in
-    record { read = rw no-a at (from .read) ∙ rw no-b; is = rw no-a at (from .is) ∙ rw no-b; sound = from .sound }
+-- Files that are longer than a record of either edition are refused alike, whatever their bytes, ..
+too-long : (a b : List ℕ) {r : RecordRead} → recordBytes < length a → recordBytes < length b → ReadFrom a r → ReadFrom b r
+too-long a b long-a long-b from =
+    let one-a = ne-eqb (length a) 91 (λ e. omega arith) in
+    let two-a = ne-eqb (length a) 94 (λ e. omega arith) in
+    let one-b = ne-eqb (length b) 91 (λ e. omega arith) in
+    let two-b = ne-eqb (length b) 94 (λ e. omega arith) in
+    record { read = rw (one-a, two-a) at (from .read) ∙ rw (one-b, two-b); is = rw (one-a, two-a) at (from .is) ∙ rw (one-b, two-b); sound = from .sound }
 
--- .. so who reads one byte more than a record's, or the whole file, has read the file.
+-- .. so who reads one byte more than the longer edition's, or the whole file, has read the file.
 pub front-loaded : (buffer : List ℕ) (n : ℕ) {r : RecordRead} → recordBytes < length buffer → ReadFrom (take n buffer) r → FrontLoaded buffer n r
 front-loaded buffer n {r} room from whole front =
     by-front (λ (bytes : List ℕ). ReadFrom bytes r) buffer n whole front from
-    (λ full long. wrong-lengths (take n buffer) whole (λ e. omega arith) (λ e. omega arith) from)
-
--- Where no number is told, the bytes are accepted: with any answers to the questions.
-outcome-none : (a b c : Bool) → firstNo ((1, a) ∷ (14, b) ∷ (13, c) ∷ []) 0 (accepted 0) .number ≡ 0 → firstNo ((1, a) ∷ (14, b) ∷ (13, c) ∷ []) 0 (accepted 0) ≡ accepted 0
-outcome-none true true true e = refl
-outcome-none true true false e = absurd (omega arith)
-outcome-none true false c e = absurd (omega arith)
-outcome-none false b c e = absurd (omega arith)
+    (λ full long. too-long (take n buffer) whole (omega arith) (omega arith) from)
 
 -- The bytes need not be named.
 pub sound-read : (buffer : List ℕ) (n : ℕ) (r : RecordRead) → n ≤ length buffer → FrontLoaded buffer n r → SoundRead r
@@ -65,7 +60,7 @@ sound-read buffer n r h front = record { sound = from .sound; loaded = go (r .«
     from = front (take n buffer) (front-self buffer n h)
 
     go : (b : Bool) → b ≡ eqb (loadOutcome bytes .number) 0 → LoadedIf b (r .state)
-    go true e = record { bytes = bytes; outcome = outcome-none (eqb (length bytes) recordBytes) (eqb (getD (savedFields bytes) 0 0) edition) (isSound (recordOf (savedFields bytes))) (eqb-true (loadOutcome bytes .number) 0 (sym e)); is = from .is }
+    go true e = record { bytes = bytes; outcome = sym (by-number (loadQuestions bytes) (sym (eqb-true (loadOutcome bytes .number) 0 (sym e)))); is = from .is }
     go false e = from .is ∙ rw (← e)
 
 -- The fresh one.

@@ -18,11 +18,11 @@ ghost use Rattle.saved.specs.Sound.{isSound};
 ghost use Rattle.memories.specs.Records.{FrontLoaded, SoundRead, FreshRead};
 ghost use Rattle.memories.specs.NewFiles.{NewWritten};
 
-// The bytes of a saved record.
-const BYTES: usize = 91;
+// The bytes of a record that is saved.
+const BYTES: usize = 94;
 
-// The bytes that decide how a record is read: its own, and one more.
-const FRONT: usize = 92;
+// The bytes that decide how a record is read: those of the longer edition, and one more.
+const FRONT: usize = 95;
 
 // Reads the saved record that an argument names; the fresh record where it is refused, as is said.
 pub fn load_record_at(i: usize) -> RecordRead
@@ -37,7 +37,7 @@ pub fn load_record_at(i: usize) -> RecordRead
 
 // The record of a file of any length, of which the buffer holds the front in its first n bytes; the fresh record where it is refused, as is said.
 fn record_of(i: usize, buffer: &[u8], n: usize) -> RecordRead
-    requires { ⌜ (91 < length (now buffer)) × (n ≤ length (now buffer)) ⌝ }
+    requires { ⌜ (94 < length (now buffer)) × (n ≤ length (now buffer)) ⌝ }
     ensures { λ r. ⌜ FrontLoaded (now (buffer .entry)) n r ⌝ }
 {
     let loaded = load(&buffer[..n]);

@@ -8,6 +8,7 @@ use Rattle.text.specs.Bytes.{bytes}
 use Rattle.text.specs.Lines.{lines, unlines}
 use Rattle.text.specs.Numerals.{digits, digitCount, digitCountUpTo, decimal}
 use Rattle.isa.specs.Registers.{registerNames, registerName, ioRegisters, ioName, clks, leds}
+use Rattle.devices.specs.Bus.{freeDrive, driveOf}
 use Rattle.files.specs.Sizes.{wordDigits}
 use Rattle.files.specs.MemoryFile.{fileText}
 use Rattle.machine.specs.declared.Core.{Core}
@@ -15,7 +16,7 @@ use Rattle.machine.specs.declared.Record.{Record}
 use Rattle.outputs.specs.Cycles.{cyclesText}
 use Rattle.outputs.specs.Statuses.{statuses, statusWords}
 use Rattle.outputs.specs.Reasons.{unfinished, fault, causeOf, reasonLine}
-use Rattle.outputs.specs.RecordText.{statusLine, pcLine, coreLines, wordLine, recordText}
+use Rattle.outputs.specs.RecordText.{statusLine, pcLine, driveLines, coreLines, wordLine, recordText}
 use Rattle.outputs.specs.LogFiles.{linesWith}
 
 -- ---- the log of document 01's example
@@ -71,7 +72,7 @@ two-registers = refl
 
 -- A machine with this status and age, at PC 12.
 abbrev stopped : ℕ → ℕ → Core
-stopped status age = record { status = status; handler = 0; pc = 12; age = age; left = 0 }
+stopped status age = record { status = status; handler = 0; pc = 12; age = age; drive = freeDrive }
 
 -- Halted, and each fault.
 each-status : map (λ n. reasonLine (stopped n 0)) (1 ∷ 2 ∷ 3 ∷ 4 ∷ 5 ∷ [])
@@ -99,7 +100,7 @@ cycle-limit = refl
 abbrev exampleRecord : Record
 exampleRecord =
     record {
-      core = record { status = 1; handler = 0; pc = 1; age = 2; left = 0 };
+      core = record { status = 1; handler = 0; pc = 1; age = 2; drive = freeDrive };
       regs = replicate 13 0;
       io = set (set (replicate 23 0) clks 2) leds 5;
     }
@@ -110,6 +111,8 @@ example-record : recordText exampleRecord
     ++ bytes "pc 001\n"
     ++ bytes "age 2\n"
     ++ bytes "left 0\n"
+    ++ bytes "sector 0\n"
+    ++ bytes "buffer 0\n"
     ++ bytes "$v0 00000000\n"
     ++ bytes "$a0 00000000\n"
     ++ bytes "$a1 00000000\n"
@@ -143,5 +146,10 @@ example-record : recordText exampleRecord
     ++ bytes "diskstatus 00000000\n"
     ++ bytes "monitoraddr 00000000\n"
     ++ bytes "monitordata 00000000\n"
-unfolding recordText coreLines statusLine pcLine wordLine statusWords statuses registerName registerNames ioName ioRegisters unlines decimal digits digitCount digitCountUpTo
+unfolding recordText coreLines driveLines statusLine pcLine wordLine statusWords statuses registerName registerNames ioName ioRegisters unlines decimal digits digitCount digitCountUpTo
 example-record = refl
+
+-- A busy disk: word 0 of sector 5 has moved, to place 256.
+busy-disk : driveLines (driveOf 1016 5 256) ≡ bytes "left 1016" ∷ bytes "sector 5" ∷ bytes "buffer 256" ∷ []
+unfolding driveLines decimal digits digitCount digitCountUpTo
+busy-disk = refl

@@ -7,11 +7,12 @@ use Rattle.text.specs.Lines.{unlines}
 use Rattle.text.specs.Numerals.{digits, decimal}
 use Rattle.trace.specs.LogLines.{field}
 use Rattle.isa.specs.Registers.{registerName, ioName}
+use Rattle.devices.specs.declared.Drive.{Drive}
 use Rattle.machine.specs.declared.Core.{Core}
 use Rattle.machine.specs.declared.Record.{Record}
 use Rattle.outputs.specs.Statuses.{statusWords}
 
--- ---- status, flag, PC, age, left
+-- ---- status, flag, PC, age, and the disk's part: left, sector, buffer
 
 -- The number and its meaning, as `status 1 halted`.
 unfoldable pub statusLine : ℕ → List ℕ
@@ -20,14 +21,20 @@ statusLine status = bytes "status " ++ decimal status ++ bytes " " ++ statusWord
 unfoldable pub pcLine : ℕ → List ℕ
 pcLine pc = bytes "pc " ++ digits 16 3 pc
 
+unfoldable pub driveLines : Drive → List (List ℕ)
+driveLines d =
+    (bytes "left " ++ decimal (d .left))
+    ∷ (bytes "sector " ++ decimal (d .sector))
+    ∷ (bytes "buffer " ++ decimal (d .buffer))
+    ∷ []
+
 unfoldable pub coreLines : Core → List (List ℕ)
 coreLines c =
     statusLine (c .status)
     ∷ (bytes "handler " ++ decimal (c .handler))
     ∷ pcLine (c .pc)
     ∷ (bytes "age " ++ decimal (c .age))
-    ∷ (bytes "left " ++ decimal (c .left))
-    ∷ []
+    ∷ driveLines (c .drive)
 
 -- ---- "R3 to R15, then I/O 0 to 17, 20, 21"
 

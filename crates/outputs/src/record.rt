@@ -13,8 +13,8 @@ ghost use Rattle.outputs.specs.RecordText.{recordText};
 
 // Puts the fields of a record by their names at the front and returns how many bytes they have.
 pub fn put_record(r: Record, out: &mut [u8]) -> usize
-    requires { ⌜ 768 ≤ length (now out) ⌝ }
-    ensures { λ n. ⌜ (now (out .exit) ≡ put (now (out .entry)) 0 (recordText r)) × (n ≡ length (recordText r)) × (n ≤ 768) × Counts n (now (out .exit)) ⌝ }
+    requires { ⌜ 832 ≤ length (now out) ⌝ }
+    ensures { λ n. ⌜ (now (out .exit) ≡ put (now (out .entry)) 0 (recordText r)) × (n ≡ length (recordText r)) × (n ≤ 832) × Counts n (now (out .exit)) ⌝ }
 {
     let regs = r.regs;
     let io = r.io;

@@ -23,10 +23,11 @@ use Rattle.files.proofs.ReturnTrip.{text-written, text-read, all-words, same-im
 use Rattle.machine.specs.declared.Record.{Record}
 use Rattle.machine.specs.State.{Machine, withDisk}
 use Rattle.machine.specs.Interrupts.{isIn}
-use Rattle.machine.specs.Execution.{isFree}
+use Rattle.devices.specs.declared.Drive.{Drive}
+use Rattle.devices.specs.Command.{isFree}
 use Rattle.machine.specs.Cycle.{isStopped, isAtLimit}
 use Rattle.machine.specs.Soundness.{Sound}
-use Rattle.machine.proofs.SoundLaws.{SoundMachine, sound-cycle, sound-fresh, left-falls, left-accepted}
+use Rattle.machine.proofs.SoundLaws.{SoundMachine, sound-cycle, sound-fresh, left-falls, drive-accepted}
 use Rattle.machine.proofs.MemoryLaws.{Fits, lengths-kept, fits-kept}
 use Rattle.executor.specs.Lent.{Sized}
 use Rattle.saved.specs.Layout.{recordBytes, savedBytes}
@@ -231,17 +232,17 @@ module _ (irq2 : List ℕ) (w : Standing) (g : Good w) where
   machine-sound : SoundMachine (2 ^ 40) (w .state)
   machine-sound = record { record-is = g .sound }
 
-  falls-one : (n : ℕ) → w .state .core .left ≡ suc n → cycled lab irq2 w .state .core .left ≡ n
+  falls-one : (n : ℕ) → w .state .core .drive .left ≡ suc n → cycled lab irq2 w .state .core .drive .left ≡ n
   falls-one n e =
       let one : suc n - 1 ≡ n = omega arith in
       left-falls (2 ^ 40) (low48 (w .image)) (isIn (w .state .core .age) irq2) (w .state) machine-sound (rw e (omega arith)) ∙ ap (λ (l : ℕ). l - 1) e ∙ one
 
-busy-then : (w : Standing) → Good w → (n : ℕ) → w .state .core .left ≡ suc n → not (isFree (w .state)) ≡ true
+busy-then : (w : Standing) → Good w → (n : ℕ) → w .state .core .drive .left ≡ suc n → not (isFree (w .state .io)) ≡ true
 busy-then w g n e =
     let one = g .sound .disk .busy (rw e (omega arith)) .0 in
     rw one
 
-free-then : (w : Standing) → Good w → w .state .core .left ≡ 0 → not (isFree (w .state)) ≡ false
+free-then : (w : Standing) → Good w → w .state .core .drive .left ≡ 0 → not (isFree (w .state .io)) ≡ false
 free-then w g e = rw (g .sound .disk .free e .0)
 
 -- ---- all of them
@@ -265,8 +266,8 @@ laws =
       written = written;
       unwritten = unwritten;
       unread = unread;
-      left = λ m. m .core .left;
-      taken = λ irq2 w g h. left-accepted (2 ^ 40) (low48 (w .image)) (isIn (w .state .core .age) irq2) (w .state) (machine-sound irq2 w g) h;
+      left = λ m. m .core .drive .left;
+      taken = λ irq2 w g h. ap (λ (d : Drive). d .left) (drive-accepted (2 ^ 40) (low48 (w .image)) (isIn (w .state .core .age) irq2) (w .state) (machine-sound irq2 w g) h);
       falls = falls-one;
       busy = busy-then;
       free = free-then;

@@ -34,7 +34,7 @@ every-call : List (Call lab)
 every-call =
     run 0 []
     ∷ run (2 ^ 64) (replicate 231 0)
-    ∷ trip theRecord (replicate 91 7) freshRecord tt
+    ∷ trip theRecord (replicate 94 7) freshRecord tt
     ∷ trip theImage [] (replicate 4096 7) refl
     ∷ trip theData [] (replicate 4096 7) refl
     ∷ trip theFrame [] (replicate 65536 7) refl

@@ -15,7 +15,7 @@ use Rattle.files.specs.MemoryFile.{readOutcome as fileReads, writeOutcome as fi
 use Rattle.files.specs.Irq2File.{rising}
 use Rattle.machine.specs.declared.Record.{Record}
 use Rattle.machine.specs.State.{Machine, freshMachine, withMemory, withDisk, withFrame}
-use Rattle.machine.specs.Execution.{isFree}
+use Rattle.devices.specs.Command.{isFree}
 use Rattle.machine.specs.Cycle.{cycle, acceptsCommand, isStopped, isAtLimit}
 use Rattle.machine.specs.Log.{cycleLines}
 use Rattle.saved.specs.Layout.{recordBytes, savedBytes}
@@ -215,5 +215,5 @@ lab =
       SameLength = SameLength;
       Room = Room;
       accepts = λ code m. acceptsCommand (code .image) (code .irq2) m;
-      isBusy = λ m. not (isFree m);
+      isBusy = λ m. not (isFree (m .io));
     }

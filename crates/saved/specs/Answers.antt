@@ -1,4 +1,4 @@
--- What each answer tells: document 01's number, the place and the count. "When an answer is an enum, a definition states this paper's number
+-- What each answer tells: the documents' number, the place and the count. "When an answer is an enum, a definition states this paper's number
 -- and values for each of its cases."
 use Rattle.text.specs.declared.Outcome.{Outcome}
 use Rattle.text.specs.Questions.{accepted, refused}
@@ -17,3 +17,4 @@ loadedOutcome LoadAnswer.Loaded = accepted 0
 loadedOutcome LoadAnswer.WrongLength = refused 1 0
 loadedOutcome LoadAnswer.OtherEdition = refused 14 0
 loadedOutcome LoadAnswer.Unsound = refused 13 0
+loadedOutcome LoadAnswer.Busy = refused 20 0

@@ -30,6 +30,7 @@ impl LoadAnswer {
             LoadAnswer::WrongLength => refused(1, 0),
             LoadAnswer::OtherEdition => refused(14, 0),
             LoadAnswer::Unsound => refused(13, 0),
+            LoadAnswer::Busy => refused(20, 0),
         }
     }
 }

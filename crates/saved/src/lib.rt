@@ -1,4 +1,4 @@
-// The saved record. What its bytes are stands in specs/.
+// The saved record: edition 2, and edition 1, which is read only. What their bytes are stands in specs/.
 use machine::Record;
 
 mod answers;
@@ -30,12 +30,14 @@ pub enum Saved {
 pub enum LoadAnswer {
     // The record is read.
     Loaded,
-    // The bytes are not as many as a record has.
+    // The bytes are not as many as a record of edition 1 or 2 has.
     WrongLength,
-    // The bytes are of another edition.
+    // The bytes name another edition than the one of their length.
     OtherEdition,
     // The record is not sound.
     Unsound,
+    // The record is of edition 1, and its disk is busy.
+    Busy,
 }
 
 // What reading a record hands back: the record, fresh where the bytes are refused, and the answer.

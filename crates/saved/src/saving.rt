@@ -10,7 +10,7 @@ ghost use mathlib.Core.Path.{_≡_};
 ghost use Rattle.saved.specs.Answers.{savedOutcome};
 ghost use Rattle.saved.specs.Calls.{saveOutcome, saveBytes};
 
-// Saves a record in 91 bytes. A refusal changes nothing.
+// Saves a record in 94 bytes, as edition 2. A refusal changes nothing.
 pub fn save(r: Record, bytes: &mut [u8]) -> Saved
     ensures { λ answer. ⌜ (savedOutcome answer ≡ saveOutcome r (now (bytes .entry))) × (now (bytes .exit) ≡ saveBytes r (now (bytes .entry))) ⌝ }
 {

@@ -1,4 +1,4 @@
--- A record and its 38 numbers: each undoes the other, and both are the saved fields without the edition and those of 0 bits. Assumes nothing.
+-- A record and its 40 numbers: each undoes the other, and both are the saved fields without the edition and those that hold 0. Assumes nothing.
 use Prim.Native.Nat.{ℕ, zero, suc, _-_}
 use mathlib.Core.Path.{_≡_, refl, _∙_, ap, subst⁻¹}
 use mathlib.Core.Bool.{true, false}
@@ -36,60 +36,64 @@ listed P k l e p = subst⁻¹ P (element-by-element k l e) p
 -- ---- numbers and fields
 
 -- The saved fields of numbers.
-abbrev pub fieldsIn : List ℕ → List ℕ
-fieldsIn n = 1 ∷ (take 36 n ++ 0 ∷ 0 ∷ (drop 36 n ++ 0 ∷ []))
+abbrev pub numberFields : List ℕ → List ℕ
+numberFields n = 2 ∷ (take 38 n ++ 0 ∷ 0 ∷ (drop 38 n ++ 0 ∷ 0 ∷ []))
 
--- 36 numbers put among the fields, and then 2 more.
-is-put : (x y : List ℕ) → length x ≡ 36
-    → take 38 (x ++ 0 ∷ 0 ∷ 0 ∷ 0 ∷ 0 ∷ []) ++ (y ++ drop 2 (drop 38 (x ++ 0 ∷ 0 ∷ 0 ∷ 0 ∷ 0 ∷ []))) ≡ x ++ 0 ∷ 0 ∷ (y ++ 0 ∷ [])
+-- 38 numbers put among the fields, and then 2 more.
+is-put : (x y : List ℕ) → length x ≡ 38
+    → take 40 (x ++ 0 ∷ 0 ∷ 0 ∷ 0 ∷ 0 ∷ 0 ∷ []) ++ (y ++ drop 2 (drop 40 (x ++ 0 ∷ 0 ∷ 0 ∷ 0 ∷ 0 ∷ 0 ∷ []))) ≡ x ++ 0 ∷ 0 ∷ (y ++ 0 ∷ 0 ∷ [])
 is-put x y e =
     listed
-    (λ (l : List ℕ). take 38 (l ++ 0 ∷ 0 ∷ 0 ∷ 0 ∷ 0 ∷ []) ++ (y ++ drop 2 (drop 38 (l ++ 0 ∷ 0 ∷ 0 ∷ 0 ∷ 0 ∷ []))) ≡ l ++ 0 ∷ 0 ∷ (y ++ 0 ∷ []))
-    36
+    (λ (l : List ℕ). take 40 (l ++ 0 ∷ 0 ∷ 0 ∷ 0 ∷ 0 ∷ 0 ∷ []) ++ (y ++ drop 2 (drop 40 (l ++ 0 ∷ 0 ∷ 0 ∷ 0 ∷ 0 ∷ 0 ∷ []))) ≡ l ++ 0 ∷ 0 ∷ (y ++ 0 ∷ 0 ∷ []))
+    38
     x
     e
     refl
 
 module _ (n : List ℕ) (e : length n ≡ recordNumbers) where
   -- The fields as the code puts them: x are the first numbers, y the last two.
-  pub put-fields : (x y : List ℕ) → x ≡ take 36 n → y ≡ take (length n - 36) (drop 36 n)
-      → 1 ∷ (take 38 (x ++ 0 ∷ 0 ∷ 0 ∷ 0 ∷ 0 ∷ []) ++ (y ++ drop 2 (drop 38 (x ++ 0 ∷ 0 ∷ 0 ∷ 0 ∷ 0 ∷ [])))) ≡ fieldsIn n
+  pub put-fields : (x y : List ℕ) → x ≡ take 38 n → y ≡ take (length n - 38) (drop 38 n)
+      → 2 ∷ (take 40 (x ++ 0 ∷ 0 ∷ 0 ∷ 0 ∷ 0 ∷ 0 ∷ []) ++ (y ++ drop 2 (drop 40 (x ++ 0 ∷ 0 ∷ 0 ∷ 0 ∷ 0 ∷ 0 ∷ [])))) ≡ numberFields n
   put-fields x y p q =
-      let size : length x ≡ 36 = rw p (length-take-le 36 n (omega arith)) in
-      let rest : y ≡ drop 36 n = q ∙ take-all (length n - 36) (drop 36 n) (simp length-drop (omega arith)) in
-      ap (λ (l : List ℕ). 1 ∷ l) (is-put x y size ∙ rw (p, rest))
+      let size : length x ≡ 38 = rw p (length-take-le 38 n (omega arith)) in
+      let rest : y ≡ drop 38 n = q ∙ take-all (length n - 38) (drop 38 n) (simp length-drop (omega arith)) in
+      ap (λ (l : List ℕ). 2 ∷ l) (is-put x y size ∙ rw (p, rest))
 
-  pub fields-length : length (fieldsIn n) ≡ 42
-  fields-length = listed (λ (l : List ℕ). length (fieldsIn l) ≡ 42) 38 n e refl
+  pub fields-length : length (numberFields n) ≡ 45
+  fields-length = listed (λ (l : List ℕ). length (numberFields l) ≡ 45) 40 n e refl
+
+  last-zero : getD (numberFields n) 44 0 ≡ 0
+  last-zero = listed (λ (l : List ℕ). getD (numberFields l) 44 0 ≡ 0) 40 n e refl
 
   -- The record of the fields is that of the numbers.
-  pub same-record : fieldRecord (fieldsIn n) ≡ recordOf n
+  pub same-record : fieldRecord (numberFields n) ≡ recordOf n
   unfolding fieldRecord recordOf
-  same-record = listed (λ (l : List ℕ). fieldRecord (fieldsIn l) ≡ recordOf l) 38 n e refl
+  same-record = listed (λ (l : List ℕ). fieldRecord (numberFields l) ≡ recordOf l) 40 n e refl
 
   -- Where a field is too wide the record is unsound.
-  pub too-wide : fit widths (fieldsIn n) ≡ false → isSound (recordOf n) ≡ false
-  too-wide unfit = rw (← same-record) (unfit-unsound (fieldRecord (fieldsIn n)) (ap (λ (f : List ℕ). fit widths f) (fields-again (fieldsIn n) fields-length refl) ∙ unfit))
+  pub too-wide : fit widths (numberFields n) ≡ false → isSound (recordOf n) ≡ false
+  too-wide unfit = rw (← same-record) (unfit-unsound (fieldRecord (numberFields n)) (ap (λ (f : List ℕ). fit widths f) (fields-again (numberFields n) fields-length refl last-zero) ∙ unfit))
 
   -- Numbers are those of their record.
   pub numbers-again : numbersOf (recordOf n) ≡ n
   unfolding recordOf numbersOf
-  numbers-again = listed (λ (l : List ℕ). numbersOf (recordOf l) ≡ l) 38 n e refl
+  numbers-again = listed (λ (l : List ℕ). numbersOf (recordOf l) ≡ l) 40 n e refl
 
 -- ---- records
 
 -- The numbers of a record among its fields.
-pub fields-numbers : (r : Record) → length (r .regs) ≡ 13 → take 36 (drop 1 (fieldsOf r)) ++ take 2 (drop 39 (fieldsOf r)) ≡ numbersOf r
+pub fields-numbers : (r : Record) → length (r .regs) ≡ 13 → length (r .io) ≡ 23 → take 38 (drop 1 (fieldsOf r)) ++ take 2 (drop 41 (fieldsOf r)) ≡ numbersOf r
 unfolding fieldsOf numbersOf
-fields-numbers r e =
-    ap (λ (l : List ℕ). r .core .status ∷ r .core .handler ∷ r .core .pc ∷ r .core .age ∷ r .core .left ∷ l)
-    (listed (λ (l : List ℕ). take 31 (l ++ r .io) ++ take 2 (drop 33 (l ++ r .io)) ≡ l ++ (take 18 (r .io) ++ take 2 (drop 20 (r .io)))) 13 (r .regs) e refl)
+fields-numbers r e k =
+    ap (λ (l : List ℕ). r .core .status ∷ r .core .handler ∷ r .core .pc ∷ r .core .age ∷ r .core .drive .left ∷ r .core .drive .sector ∷ r .core .drive .buffer ∷ l)
+    (listed (λ (l : List ℕ). take 31 (l ++ (r .io ++ 0 ∷ [])) ++ take 2 (drop 33 (l ++ (r .io ++ 0 ∷ []))) ≡ l ++ (take 18 (r .io) ++ take 2 (drop 20 (r .io)))) 13 (r .regs) e
+    (ap (λ (l : List ℕ). elements 13 (r .regs) ++ l) (listed (λ (l : List ℕ). take 18 (l ++ 0 ∷ []) ++ take 2 (drop 20 (l ++ 0 ∷ [])) ≡ take 18 l ++ take 2 (drop 20 l)) 23 (r .io) k refl)))
 
--- 36 numbers put before the rest, and then 2 more over it.
-pub put-numbers : (x d y : List ℕ) → length x ≡ 36 → take 36 (x ++ d) ++ (y ++ drop (length (x ++ d) - 36) (drop 36 (x ++ d))) ≡ x ++ y
+-- 38 numbers put before the rest, and then 2 more over it.
+pub put-numbers : (x d y : List ℕ) → length x ≡ 38 → take 38 (x ++ d) ++ (y ++ drop (length (x ++ d) - 38) (drop 38 (x ++ d))) ≡ x ++ y
 put-numbers x d y e =
     let size = length-append x d in
-    rw (take-at x d 36 e, drop-at x d 36 e, drop-of-length-le d {i = length (x ++ d) - 36} (omega arith), append-nil y)
+    rw (take-at x d 38 e, drop-at x d 38 e, drop-of-length-le d {i = length (x ++ d) - 38} (omega arith), append-nil y)
 
 -- The I/O registers, where those without bits are 0.
 io-again : (io : List ℕ) → length io ≡ 23 → getD io 18 0 ≡ 0 → getD io 19 0 ≡ 0 → getD io 22 0 ≡ 0

@@ -21,7 +21,7 @@ use Rattle.simp.proofs.NumberLaws.{numbers-again}
 
 -- An unsound record leaves the bytes.
 unsound-keeps : (r : Record) (bytes : List ℕ) → isSound r ≡ false → saveBytes r bytes ≡ bytes
-unsound-keeps r bytes e = rw e (go (eqb (length bytes) 91))
+unsound-keeps r bytes e = rw e (go (eqb (length bytes) 94))
   where
     go : (t : Bool) → unlessRefused (firstNo ((1, t) ∷ (13, false) ∷ []) 0 (accepted 0)) (savedBytes r) bytes ≡ bytes
     go true = refl

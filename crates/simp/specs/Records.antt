@@ -10,7 +10,7 @@ use Rattle.saved.specs.Layout.{savedBytes}
 use Rattle.saved.specs.Calls.{saveOutcome, loadOutcome, loadRecord}
 use Rattle.simp.specs.Numbers.{isRecordLength, recordOf, numbersOf}
 
--- Question 1 asks also for the 38 numbers of a record; then those of saving the record.
+-- Question 1 asks also for the 40 numbers of a record; then those of saving the record.
 abbrev pub simpSaveOutcome : (numbers bytes : List ℕ) → Outcome
 simpSaveOutcome numbers bytes = firstNo ((1, isRecordLength (length numbers)) ∷ []) 0 (saveOutcome (recordOf numbers) bytes)
 
@@ -19,11 +19,11 @@ pub record Saves (numbers bytes : List ℕ) (r : ℕ) (bytesAfter : List ℕ) : 
   pub number : r ≡ simpSaveOutcome numbers bytes .number
   pub bytes-are : bytesAfter ≡ unlessRefused (simpSaveOutcome numbers bytes) (savedBytes (recordOf numbers)) bytes
 
--- Question 1 asks also for the 38 numbers of a record; then those of reading one.
+-- Question 1 asks also for the 40 numbers of a record; then those of reading one.
 abbrev pub simpLoadOutcome : (bytes numbers : List ℕ) → Outcome
 simpLoadOutcome bytes numbers = firstNo ((1, isRecordLength (length numbers)) ∷ []) 0 (loadOutcome bytes)
 
--- `simp_load` returns r. Where there are 38 numbers they are those of the record read, which is the fresh one where the bytes are refused
+-- `simp_load` returns r. Where there are 40 numbers they are those of the record read, which is the fresh one where the bytes are refused
 -- (`loadRecord`); any other count of numbers is left as it was.
 pub record Loads (bytes numbers : List ℕ) (r : ℕ) (numbersAfter : List ℕ) : Type 0 where
   pub number : r ≡ simpLoadOutcome bytes numbers .number

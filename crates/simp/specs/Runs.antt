@@ -20,7 +20,7 @@ isReportLength n = eqb n reportNumbers
 abbrev pub reportOf : Done lab → List ℕ
 reportOf d = d .cycles ∷ d .bytes ∷ d .reason ∷ []
 
--- The run of the record of numbers. Question 1 asks also for the 38 numbers of a record and the 3 of a report; then all is as demand 3 has it.
+-- The run of the record of numbers. Question 1 asks also for the 40 numbers of a record and the 3 of a report; then all is as demand 3 has it.
 abbrev pub simpRun : (numbers image memory disk frame irq2 : List ℕ) (budget : ℕ) (log report : List ℕ) → Done lab
 simpRun numbers image memory disk frame irq2 budget log report =
     cond (isRecordLength (length numbers) && isReportLength (length report))

@@ -1,8 +1,8 @@
-// A record and its 38 numbers.
+// A record and its 40 numbers.
 use bitpack::all_fit;
-use machine::Core;
 use machine::Record;
 use saved::fields::fields;
+use saved::fresh_record;
 use saved::layout::EDITION;
 use saved::layout::WIDTHS;
 use words::copies::copy_long_words;
@@ -13,17 +13,17 @@ ghost use Rattle.saved.specs.Sound.{isSound};
 ghost use Rattle.simp.specs.Numbers.{recordNumbers, numbersOf, StandsFor};
 
 // How many numbers a record is.
-pub const RECORD_NUMBERS: usize = 38;
+pub const RECORD_NUMBERS: usize = 40;
 
-// The record of 38 numbers; one that is not sound where a number is too wide for its field.
+// The record of 40 numbers; one that is not sound where a number is too wide for its field.
 pub fn record_of(numbers: &[u64]) -> Record
     requires { ⌜ length (now numbers) ≡ recordNumbers ⌝ }
     ensures { λ r. ⌜ StandsFor (now (numbers .entry)) r ⌝ }
 {
-    let mut f: [u64; 42] = [0; 42];
+    let mut f: [u64; 45] = [0; 45];
     f[0] = EDITION;
-    copy_long_words(&mut f[1..37], &numbers[..36]);
-    copy_long_words(&mut f[39..41], &numbers[36..]);
+    copy_long_words(&mut f[1..39], &numbers[..38]);
+    copy_long_words(&mut f[41..43], &numbers[38..]);
     let widths = WIDTHS;
     if !all_fit(&widths, &f) {
         return unsound_record();
@@ -35,26 +35,17 @@ pub fn record_of(numbers: &[u64]) -> Record
 fn unsound_record() -> Record
     ensures { λ r. ⌜ isSound r ≡ false ⌝ }
 {
-    let core = Core {
-        status: 6,
-        handler: 0,
-        pc: 0,
-        age: 0,
-        left: 0,
-    };
-    Record {
-        core: core,
-        regs: [0; 13],
-        io: [0; 23],
-    }
+    let mut r = fresh_record();
+    r.core.status = 6;
+    r
 }
 
-// Sets 38 numbers to those of a record.
+// Sets 40 numbers to those of a record.
 pub fn put_numbers(r: Record, numbers: &mut [u64])
     requires { ⌜ length (now numbers) ≡ recordNumbers ⌝ }
     ensures { λ _. ⌜ now (numbers .exit) ≡ numbersOf r ⌝ }
 {
     let f = fields(r);
-    copy_long_words(&mut numbers[..36], &f[1..37]);
-    copy_long_words(&mut numbers[36..], &f[39..41]);
+    copy_long_words(&mut numbers[..38], &f[1..39]);
+    copy_long_words(&mut numbers[38..], &f[41..43]);
 }

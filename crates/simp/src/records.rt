@@ -7,7 +7,7 @@ use saved::load;
 use saved::save;
 ghost use Rattle.simp.specs.Records.{Saves, Loads};
 
-// Saves the record of 38 numbers in 91 bytes.
+// Saves the record of 40 numbers in 94 bytes.
 #[no_mangle]
 pub extern "C" fn simp_save(numbers: &[u64], bytes: &mut [u8]) -> u32
     ensures { λ r. ⌜ Saves (now (numbers .entry)) (now (bytes .entry)) r (now (bytes .exit)) ⌝ }
@@ -19,7 +19,7 @@ pub extern "C" fn simp_save(numbers: &[u64], bytes: &mut [u8]) -> u32
     outcome.number
 }
 
-// Reads 91 bytes into the 38 numbers of a record.
+// Reads 94 bytes of edition 2, or 91 of edition 1, into the 40 numbers of a record.
 #[no_mangle]
 pub extern "C" fn simp_load(bytes: &[u8], numbers: &mut [u64]) -> u32
     ensures { λ r. ⌜ Loads (now (bytes .entry)) (now (numbers .entry)) r (now (numbers .exit)) ⌝ }

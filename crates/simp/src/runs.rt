@@ -16,7 +16,7 @@ ghost use Rattle.simp.specs.Runs.{reportNumbers, simpRun, Runs};
 // How many numbers a report is: cycles, log bytes, reason.
 const REPORT_NUMBERS: usize = 3;
 
-// Runs the machine of 38 numbers and lent memories.
+// Runs the machine of 40 numbers and lent memories.
 #[no_mangle]
 pub extern "C" fn simp_run(
     numbers: &mut [u64],
@@ -66,7 +66,7 @@ fn put_report(cycles: u64, bytes: u64, reason: u64, report: &mut [u64])
     report[2] = reason;
 }
 
-// Sets 38 numbers to those of the record that an accepted run leaves.
+// Sets 40 numbers to those of the record that an accepted run leaves.
 fn put_record(number: u32, state: Record, numbers: &mut [u64])
     requires { ⌜ length (now numbers) ≡ recordNumbers ⌝ }
     ensures { λ _. ⌜ now (numbers .exit) ≡ cond (eqb number 0) (numbersOf state) (now (numbers .entry)) ⌝ }

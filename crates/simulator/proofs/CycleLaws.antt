@@ -16,7 +16,7 @@ use Rattle.machine.specs.declared.Operands.{Operands}
 use Rattle.machine.specs.State.{Machine}
 use Rattle.executor.specs.Lent.{packed, HaveText}
 use Rattle.machine.specs.Execution.{fetched, registersOf, operandsOf, executed, fetchedAndExecuted}
-use Rattle.machine.specs.Cycle.{timerStepped, diskStepped, counted, atFetch, stepped}
+use Rattle.machine.specs.Cycle.{finished, atFetch, stepped}
 use Rattle.machine.specs.Log.{ioLines, linesAtFetch, traced, tracedOn}
 
 -- ---- steps 3 and 4
@@ -68,7 +68,13 @@ module _ (image : List ℕ) (c : Core) (registers after io memory disk frame : L
 
 module _ (image : List ℕ) (hit : Bool) (m fetch done after : Machine) (log lines : List ℕ) (at to : ℕ) (begun : fetch ≡ atFetch hit m) where
   -- The cycle and its lines from its steps.
-  pub cycle-is : done ≡ fetchedAndExecuted image fetch → after ≡ counted (diskStepped (m .core .left) (timerStepped done))
+  pub cycle-is : done ≡ fetchedAndExecuted image fetch → after ≡ finished (m .core .drive .left) done
       → lines ≡ put log at (linesAtFetch image fetch) → to ≡ at + length (linesAtFetch image fetch) → traced after lines to ≡ tracedOn image hit (traced m log at)
   unfolding tracedOn stepped
   cycle-is e f l n = rw (f, e, l, n, begun) refl
+
+-- The lines don't depend on the disk.
+pub lines-any : (image : List ℕ) (c : Core) (registers io memory disk other frame : List ℕ)
+    → linesAtFetch image (packed c registers io memory disk frame) ≡ linesAtFetch image (packed c registers io memory other frame)
+unfolding linesAtFetch
+lines-any image c registers io memory disk other frame = refl

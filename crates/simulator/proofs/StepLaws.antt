@@ -5,20 +5,20 @@ use mathlib.Core.Bool.{Bool, true, false, cond}
 use mathlib.Core.List.{List, []}
 use native.Mathlib.Omega.{arith}
 use lib.Dec.{ltb}
-use lib.ListN.{getD, set}
+use lib.ListN.{set}
 use borrow.Author.Tests.{ltb-true, ltb-false}
-use Rattle.devices.specs.Timer.{timed}
-use Rattle.devices.specs.Disk.{leftAfter, diskAfter}
+use Rattle.devices.specs.declared.Drive.{Drive}
+use Rattle.devices.specs.Bus.{Bus, bus}
+use Rattle.devices.specs.Devices.{devicesStepped}
 use Rattle.isa.specs.Operations.{operationOf}
-use Rattle.isa.specs.Registers.{irq2status, clks}
+use Rattle.isa.specs.Registers.{irq2status}
 use Rattle.isa.proofs.OperationLaws.{calculation-at, comparison-at, unknown-above}
-use Rattle.words.specs.Words.{plus}
 use Rattle.machine.specs.declared.Core.{Core}
 use Rattle.machine.specs.declared.Operands.{Operands}
-use Rattle.machine.specs.State.{coreLeft, coreAge}
+use Rattle.machine.specs.State.{coreDrive, coreAge, withAge, withBus}
 use Rattle.executor.specs.Lent.{packed}
 use Rattle.machine.specs.Interrupts.{irq2Raised}
-use Rattle.machine.specs.Cycle.{timerStepped, diskStepped, counted}
+use Rattle.machine.specs.Cycle.{finished}
 use Rattle.machine.specs.Log.{ioLines}
 
 -- The I/O registers after step 1.
@@ -28,13 +28,13 @@ unfolding irq2Raised
 raised-is c regs io after memory disk frame true e = ap (λ (x : List ℕ). packed c regs x memory disk frame) e
 raised-is c regs io after memory disk frame false e = ap (λ (x : List ℕ). packed c regs x memory disk frame) e
 
--- The timer's step, the disk's and the count, each by itself, are steps 5 to 7.
-pub ended-is : (began : ℕ) (c : Core) (regs io timer disk memory sectors frame : List ℕ) (left count : ℕ) → timer ≡ timed io
-    → left ≡ leftAfter began (c .left) → disk ≡ diskAfter began (c .left) timer → count ≡ plus (getD disk clks 0) 1
-    → packed (coreLeft left (coreAge (c .age + 1) c)) regs (set disk clks count) memory sectors frame
-    ≡ counted (diskStepped began (timerStepped (packed c regs io memory sectors frame)))
-unfolding counted diskStepped timerStepped
-ended-is began c regs io timer disk memory sectors frame left count t l d n = rw (n, d, l, t) refl
+-- The devices' steps and the age are steps 5 to 7.
+pub finished-is : (began : ℕ) (c : Core) (d : Drive) (regs io after memory moved disk sectors frame : List ℕ)
+    → bus d after moved sectors ≡ devicesStepped began (bus (c .drive) io memory disk)
+    → packed (coreDrive d (coreAge (c .age + 1) c)) regs after moved sectors frame ≡ finished began (packed c regs io memory disk frame)
+unfolding finished
+finished-is began c d regs io after memory moved disk sectors frame e =
+    ap (λ (b : Bus). withAge (c .age + 1) (withBus b (packed c regs io memory disk frame))) e
 
 -- 15 to 18 and 21 by themselves.
 single-lines : (c : ℕ) (o : Operands) (io : List ℕ) (k : ℕ) → k < 7 → (k ≡ 4 → ⊥) → (k ≡ 5 → ⊥) → ioLines c (operationOf (15 + k)) o io ≡ []

@@ -2,18 +2,17 @@
 use crate::Step;
 use crate::interrupts::begin_cycle;
 use crate::io_lines::put_io_lines;
-use devices::disk::step_disk;
-use devices::timer::step_timer;
+use devices::cycle::step_devices;
 use executor::execute::execute;
 use isa::Fields;
-use isa::io::CLKS;
 use isa::word::decode;
 use isa::word::sign_extend;
 use machine::Core;
 use machine::Operands;
+use machine::scalars::with_age;
+use machine::scalars::with_drive;
 use trace::log_lines::put_line_t;
 use trace::prefixes::update_prefix;
-use words::arithmetic::plus;
 ghost use mathlib.Core.Path.{_≡_};
 ghost use mathlib.Core.List.{List, _++_};
 ghost use Prim.Native.Nat.{ℕ, _+_, _/_, _%_, _^_, _≤_, _<_};
@@ -22,11 +21,12 @@ ghost use Rattle.text.specs.Numerals.{HexWords};
 ghost use Rattle.text.specs.Place.{put, Puts};
 ghost use Rattle.isa.specs.Word.{Fitting as FieldsFit, signExtended};
 ghost use Rattle.isa.specs.Operations.{operationOf};
+ghost use Rattle.devices.specs.Disk.{HasSector};
 ghost use Rattle.trace.specs.LogLines.{lineT};
 ghost use Rattle.trace.specs.Prefixes.{ValidFor, IsPrefix};
 ghost use Rattle.machine.specs.declared.Core.{Core as CoreOf};
 ghost use Rattle.machine.specs.Execution.{registersOf, operandsOf, fetchedAndExecuted};
-ghost use Rattle.machine.specs.Cycle.{timerStepped, diskStepped, counted, atFetch};
+ghost use Rattle.machine.specs.Cycle.{finished, atFetch};
 ghost use Rattle.machine.specs.Log.{ioLines, linesAtFetch, traced, tracedOn};
 ghost use Rattle.machine.specs.Soundness.{Sound};
 ghost use Rattle.executor.specs.Lent.{packed, HaveText, Sized, Ready};
@@ -55,7 +55,8 @@ pub fn cycle(
     ensures { λ r. ⌜ HaveText (now (regs .exit)) (now (text .exit)) × IsPrefix (now (prefix .exit)) ⌝ }
 {
     update_prefix(prefix, c.age);
-    let began = c.left;
+    let b = c.drive;
+    let began = b.left;
     let s = begin_cycle(c, hit, io);
     let d = fetch_and_execute(
         s,
@@ -64,7 +65,6 @@ pub fn cycle(
         io,
         image,
         memory,
-        disk,
         frame,
         log,
         at,
@@ -73,7 +73,7 @@ pub fn cycle(
     );
     let e = d.core;
     Step {
-        core: end_cycle(began, e, io),
+        core: end_cycle(began, e, io, memory, disk),
         at: d.at,
     }
 }
@@ -86,7 +86,6 @@ fn fetch_and_execute(
     io: &mut [u32; 23],
     image: &[u64],
     memory: &mut [u32],
-    disk: &mut [u32],
     frame: &mut [u8],
     log: &mut [u8],
     at: usize,
@@ -94,10 +93,10 @@ fn fetch_and_execute(
     prefix: &[u64; 7],
 ) -> Step
     requires { ⌜ (c .pc < 4096) × ((length (now image) ≡ 4096) × ValidFor (c .age) (now prefix)) ⌝ }
-    requires { ⌜ HaveText (now regs) (now text) × (HexWords (now table) × Ready (now io) (now memory) (now disk) (now frame)) ⌝ }
-    requires { ⌜ at + length (linesAtFetch (now image) (packed c (now regs) (now io) (now memory) (now disk) (now frame))) ≤ length (now log) ⌝ }
-    ensures { λ r. ⌜ packed (r .core) (now (regs .exit)) (now (io .exit)) (now (memory .exit)) (now (disk .exit)) (now (frame .exit)) ≡ fetchedAndExecuted (now (image .entry)) (packed c (now (regs .entry)) (now (io .entry)) (now (memory .entry)) (now (disk .entry)) (now (frame .entry))) ⌝ }
-    ensures { λ r. ⌜ (now (log .exit) ≡ put (now (log .entry)) at (linesAtFetch (now (image .entry)) (packed c (now (regs .entry)) (now (io .entry)) (now (memory .entry)) (now (disk .entry)) (now (frame .entry))))) × (r .at ≡ at + length (linesAtFetch (now (image .entry)) (packed c (now (regs .entry)) (now (io .entry)) (now (memory .entry)) (now (disk .entry)) (now (frame .entry))))) ⌝ }
+    requires { ⌜ HaveText (now regs) (now text) × (HexWords (now table) × ((length (now memory) ≡ 4096) × Ready (now io) (now frame))) ⌝ }
+    requires { ⌜ ((disk : List ℕ) → at + length (linesAtFetch (now image) (packed c (now regs) (now io) (now memory) disk (now frame))) ≤ length (now log)) ⌝ }
+    ensures { λ r. ⌜ ((disk : List ℕ) → packed (r .core) (now (regs .exit)) (now (io .exit)) (now (memory .exit)) disk (now (frame .exit)) ≡ fetchedAndExecuted (now (image .entry)) (packed c (now (regs .entry)) (now (io .entry)) (now (memory .entry)) disk (now (frame .entry)))) ⌝ }
+    ensures { λ r. ⌜ ((disk : List ℕ) → (now (log .exit) ≡ put (now (log .entry)) at (linesAtFetch (now (image .entry)) (packed c (now (regs .entry)) (now (io .entry)) (now (memory .entry)) disk (now (frame .entry))))) × (r .at ≡ at + length (linesAtFetch (now (image .entry)) (packed c (now (regs .entry)) (now (io .entry)) (now (memory .entry)) disk (now (frame .entry)))))) ⌝ }
     ensures { λ r. ⌜ HaveText (now (regs .exit)) (now (text .exit)) ⌝ }
 {
     let word = image[c.pc as usize];
@@ -105,7 +104,7 @@ fn fetch_and_execute(
     let o = read_operands(f, regs);
     let end = put_lines(log, at, c, word, f.op, o, regs, text, io, table, prefix);
     Step {
-        core: execute(f.op, c, o, regs, text, io, memory, disk, frame, table),
+        core: execute(f.op, c, o, regs, text, io, memory, frame, table),
         at: end,
     }
 }
@@ -153,18 +152,10 @@ fn put_lines(
 }
 
 // Steps 5 to 7; `began` are the disk cycles to go when the cycle began.
-fn end_cycle(began: u32, c: Core, io: &mut [u32; 23]) -> Core
-    requires { ⌜ (began ≤ c .left) × ((c .age < 2 ^ 40) × (length (now io) ≡ 23)) ⌝ }
-    ensures { λ r. ⌜ ((regs memory disk frame : List ℕ) → packed r regs (now (io .exit)) memory disk frame ≡ counted (diskStepped began (timerStepped (packed c regs (now (io .entry)) memory disk frame)))) ⌝ }
+fn end_cycle(began: u32, c: Core, io: &mut [u32; 23], memory: &mut [u32], disk: &mut [u32]) -> Core
+    requires { ⌜ (began ≤ c .drive .left) × ((c .age < 2 ^ 40) × HasSector (c .drive) (now io) (now memory) (now disk)) ⌝ }
+    ensures { λ r. ⌜ ((regs frame : List ℕ) → packed r regs (now (io .exit)) (now (memory .exit)) (now (disk .exit)) frame ≡ finished began (packed c regs (now (io .entry)) (now (memory .entry)) (now (disk .entry)) frame)) ⌝ }
 {
-    step_timer(io);
-    let left = step_disk(began, c.left, io);
-    io[CLKS] = plus(io[CLKS], 1);
-    Core {
-        status: c.status,
-        handler: c.handler,
-        pc: c.pc,
-        age: c.age + 1,
-        left: left,
-    }
+    let drive = step_devices(began, c.drive, io, memory, disk);
+    with_drive(with_age(c, c.age + 1), drive)
 }

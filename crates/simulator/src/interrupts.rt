@@ -8,6 +8,9 @@ use isa::io::IRQ2STATUS;
 use isa::io::IRQHANDLER;
 use isa::io::IRQRETURN;
 use machine::Core;
+use machine::scalars::kept;
+use machine::scalars::with_handler;
+use machine::scalars::with_pc;
 ghost use mathlib.Core.Path.{_≡_};
 ghost use mathlib.Core.Bool.{cond, _&&_};
 ghost use mathlib.Core.List.{List};
@@ -41,32 +44,14 @@ fn enter_handler(c: Core, io: &mut [u32; 23]) -> Core
     ensures { λ r. ⌜ ((regs memory disk frame : List ℕ) → packed r regs (now (io .exit)) memory disk frame ≡ interrupted (packed c regs (now (io .entry)) memory disk frame)) ⌝ }
 {
     if c.handler != 0 {
-        return Core {
-            status: c.status,
-            handler: c.handler,
-            pc: c.pc,
-            age: c.age,
-            left: c.left,
-        };
+        return kept(c);
     }
     if is_requested(io) {
         let to = io[IRQHANDLER];
         io[IRQRETURN] = c.pc;
-        return Core {
-            status: c.status,
-            handler: 1,
-            pc: to,
-            age: c.age,
-            left: c.left,
-        };
+        return with_handler(with_pc(c, to), 1);
     }
-    Core {
-        status: c.status,
-        handler: c.handler,
-        pc: c.pc,
-        age: c.age,
-        left: c.left,
-    }
+    kept(c)
 }
 
 // Whether an interrupt is requested: some enable and its status are both 1.

@@ -6,14 +6,16 @@ use Rattle.text.specs.Numerals.{digits, decimal, digitCount, digitCountUpTo}
 use Rattle.text.specs.Place.{put}
 use Rattle.files.specs.Sizes.{imageWords, dataWords, diskWords, frameBytes}
 use Rattle.devices.specs.Timer.{timed}
-use Rattle.devices.specs.Disk.{freed}
+use Rattle.devices.specs.Command.{taken}
+use Rattle.devices.specs.Disk.{memoryServed, diskServed, freed, driveFallen, ioFallen, served, diskStepped}
+use Rattle.devices.specs.Devices.{clocked, devicesStepped}
 use Rattle.isa.specs.Operations.{operationOf}
 use Rattle.isa.specs.Registers.{ioBits, ioName}
 use Rattle.trace.specs.LogLines.{registerFields, lineT, lineH, lineLD}
 use Rattle.machine.specs.State.{Machine, freshMachine, registers, ioAt}
 use Rattle.machine.specs.Interrupts.{isIn, irq2Raised, interrupted}
-use Rattle.machine.specs.Execution.{attempted, commanded, painted, outputted, executed, fetchedAndExecuted}
-use Rattle.machine.specs.Cycle.{timerStepped, diskStepped, counted, atFetch, stepped}
+use Rattle.machine.specs.Execution.{commanded, painted, outputted, executed, fetchedAndExecuted}
+use Rattle.machine.specs.Cycle.{finished, atFetch, stepped}
 use Rattle.machine.specs.Log.{changeLines, ioLines, linesAtFetch}
 use Rattle.claim.specs.Plain.{onward, said, after, logAfter}
 use Rattle.runner.specs.Lab.{simp, codeOf}
@@ -32,7 +34,7 @@ fresh = freshWith (replicate dataWords 0) (replicate diskWords 0)
 
 -- The plain machine, n cycles after m, with an irq2 list. The line names what a cycle has to open.
 unfoldable pub plainFrom : (program irq2 : List ℕ) → Machine → ℕ → Machine
-unfolding after onward stepped counted diskStepped timerStepped fetchedAndExecuted executed outputted commanded attempted painted atFetch interrupted irq2Raised isIn operationOf ioBits timed freed put
+unfolding after onward stepped finished devicesStepped diskStepped served memoryServed diskServed driveFallen ioFallen clocked taken fetchedAndExecuted executed outputted commanded painted atFetch interrupted irq2Raised isIn operationOf ioBits timed freed put
 plainFrom program irq2 m n = after simp (codeOf (imageOf program) irq2) n m
 
 -- The lines of those n cycles.

@@ -69,6 +69,15 @@ buffer3969 =
     ∷ 0x14010200E001  -- out $zero, $imm1, $zero, $imm2, 14, 1: diskcmd = 1
     ∷ []
 
+abbrev pub transfer : List ℕ
+transfer =
+    0x14010200F001  -- out $zero, $imm1, $zero, $imm2, 15, 1: disksector = 1
+    ∷ 0x140102010064  -- out $zero, $imm1, $zero, $imm2, 16, 100: diskbuffer = 100
+    ∷ 0x14010200E001  -- out $zero, $imm1, $zero, $imm2, 14, 1: diskcmd = 1, in cycle 2
+    ∷ 0x14010200F002  -- out $zero, $imm1, $zero, $imm2, 15, 2: disksector = 2, while the disk is busy
+    ∷ 0x140102010FFF  -- out $zero, $imm1, $zero, $imm2, 16, 0xFFF: diskbuffer = 4095
+    ∷ []
+
 abbrev pub loads : List ℕ
 loads =
     0x06712000100C  -- sll $t0, $imm1, $imm2, $zero, 1, 12: 4096

@@ -10,6 +10,7 @@ use Rattle.text.specs.Lines.{lines}
 use Rattle.files.specs.Sizes.{imageWords, dataWords, diskWords, frameBytes}
 use Rattle.files.specs.MemoryFile.{readOutcome as fileReads, linesOutcome, fileWords}
 use Rattle.files.specs.Irq2File.{rising}
+use Rattle.devices.specs.Bus.{freeDrive}
 use Rattle.machine.specs.State.{Machine}
 use Rattle.saved.specs.Layout.{widths, fieldsOf}
 use Rattle.saved.specs.Sound.{isSound}
@@ -50,7 +51,7 @@ printed =
 abbrev pub afterCycles : (status cycles : ℕ) → Machine
 afterCycles status cycles =
     record {
-      core = record { status = status; handler = 0; pc = 1; age = cycles; left = 0 };
+      core = record { status = status; handler = 0; pc = 1; age = cycles; drive = freeDrive };
       regs = replicate 13 0;
       io = replicate 8 0 ++ (cycles ∷ 5 ∷ []) ++ replicate 13 0;
       memory = replicate dataWords 0;

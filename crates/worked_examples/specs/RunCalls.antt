@@ -1,8 +1,8 @@
--- Run calls and a list of calls, computed: the order of the reasons, the cycle limit, refusals, and a trip between two runs.
+-- Run calls and lists of calls, computed: the order of the reasons, the cycle limit, refusals, a trip between two runs, and a list that is cut inside a sector.
 use Prim.Native.Nat.{ℕ, _-_, _^_}
 use mathlib.Core.Path.{_≡_, refl}
 use mathlib.Core.Bool.{true, false}
-use mathlib.Core.List.{List, [], _∷_, map}
+use mathlib.Core.List.{List, [], _∷_, _++_, map}
 use native.Mathlib.Omega.{arith}
 use lib.ListN.{replicate}
 use Rattle.text.specs.Lines.{unlines}
@@ -15,13 +15,15 @@ use Rattle.bitpack.specs.Packed.{bytesOf, numberOf}
 use Rattle.isa.specs.Registers.{irq2status}
 use Rattle.machine.specs.State.{Machine, withStatus, withAge, withMemory, withDisk, withFrame}
 use Rattle.machine.specs.Cycle.{isCommand, acceptsAtFetch}
-use Rattle.saved.specs.Layout.{widths, fieldsOf, recordOf, savedBytes, savedFields}
+use Rattle.bitpack.specs.Format.{bytesOfRecord, fieldsIn}
+use Rattle.devices.specs.Bus.{driveOf}
+use Rattle.saved.specs.Layout.{widths, fieldsOf, recordOf}
 use Rattle.saved.specs.Sound.{isSound}
-use Rattle.saved.specs.Calls.{freshRecord}
+use Rattle.saved.specs.Calls.{freshRecord, formatOf}
 use Rattle.claim.specs.Calls.{Call, run, runOther, trip, Done, runFrom, runCall, tripCall, session, total, joined, final}
 use Rattle.runner.specs.Lab.{Standing, lab, codeOf, theRecord, theData}
-use Rattle.worked_examples.specs.Cycles.{imageOf, fresh, plain, plainFrom, linesFrom, IO}
-use Rattle.worked_examples.specs.Programs.{disk, twoLines}
+use Rattle.worked_examples.specs.Cycles.{imageOf, freshWith, fresh, plain, plainFrom, linesFrom, IO}
+use Rattle.worked_examples.specs.Programs.{disk, transfer, twoLines}
 use Rattle.worked_examples.specs.RunAbove.{printed, halted}
 
 -- A run of a program by a machine, with a log of so many bytes that hold 0x55.
@@ -100,14 +102,14 @@ calls : List (Call lab)
 unfolding rising risesAfter
 calls =
     run 1 (replicate 200 0)
-    ∷ trip theRecord (replicate 91 0) freshRecord tt
+    ∷ trip theRecord (replicate 94 0) freshRecord tt
     ∷ trip theData [] (replicate 4096 7) refl
     ∷ runOther 5 [] (3 ∷ 3 ∷ []) start (λ e. absurd (omega arith))
     ∷ run 9 (replicate 163 0)
     ∷ []
 
 done : List (Done lab)
-unfolding calls session runOf tripCall savedBytes savedFields recordOf bytesOf numberOf bits fileWrites fileText unlines digits
+unfolding calls session runOf tripCall bytesOfRecord formatOf fieldsIn recordOf bytesOf numberOf bits fileWrites fileText unlines digits
 done = session lab [] start calls
 
 outcome : map (λ (d : Done lab). d .outcome .number) done ≡ 0 ∷ 0 ∷ 15 ∷ 12 ∷ 0 ∷ []
@@ -126,3 +128,40 @@ logs = refl
 stands : final lab start calls done .state ≡ halted
 unfolding done final
 stands = refl
+
+-- ---- a list of calls that is cut inside a sector
+
+-- Sector 1 holds 9s. Its command is accepted in cycle 2, so word 0 moves in cycle 10 and word 1 in cycle 18.
+abbrev reading : Standing
+reading = record { image = imageOf transfer; state = freshWith (replicate 4096 0) (replicate 128 0 ++ (replicate 128 9 ++ replicate 16128 0)) }
+
+-- A run of 14 cycles; the record saved and read back; a run whose log has room for 5 cycles.
+cut : List (Call lab)
+cut = run 14 (replicate 3000 0) ∷ trip theRecord (replicate 94 0) freshRecord tt ∷ run 100 (replicate 817 0) ∷ []
+
+cutDone : List (Done lab)
+unfolding cut session runOf tripCall bytesOfRecord formatOf fieldsIn recordOf bytesOf numberOf bits
+cutDone = session lab [] reading cut
+
+-- All are accepted; the runs make 14 and 5 cycles, the first until its budget is spent, the second until its log is full.
+cut-runs : map (λ (d : Done lab). d .outcome .number ∷ d .cycles ∷ d .reason ∷ []) cutDone ≡ (0 ∷ 14 ∷ 0 ∷ []) ∷ (0 ∷ 0 ∷ 0 ∷ []) ∷ (0 ∷ 5 ∷ 2 ∷ []) ∷ []
+unfolding cutDone
+cut-runs = refl
+
+-- What is left of the command, and the sector and the buffer that it took: after the first run, read back, and at the end.
+cut-drives : map (λ (d : Done lab). d .lent .state .core .drive) cutDone ≡ driveOf 1013 1 100 ∷ driveOf 1013 1 100 ∷ driveOf 1008 1 100 ∷ []
+unfolding cutDone
+cut-drives = refl
+
+-- Word 0 has moved before the cut, word 1 after it; so it is with the plain machine after 19 cycles, and with its log.
+cut-memory : final lab reading cut cutDone .state .memory ≡ replicate 100 0 ++ (9 ∷ 9 ∷ replicate 3994 0)
+unfolding cutDone final
+cut-memory = refl
+
+cut-stands : final lab reading cut cutDone .state ≡ plainFrom transfer [] (reading .state) 19
+unfolding cutDone final plainFrom
+cut-stands = refl
+
+cut-logs : joined lab cutDone ≡ linesFrom transfer [] (reading .state) 19
+unfolding cutDone joined linesFrom
+cut-logs = refl

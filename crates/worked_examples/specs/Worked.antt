@@ -1,4 +1,4 @@
--- Document 01's proved examples, "Together, by one computed check", in its order and words. Where nothing else is said, a program runs from the fresh
+-- Document 01's proved examples, "Together, by one computed check", in its order and words, with the disk and the saved record of document 02 (v). Where nothing else is said, a program runs from the fresh
 -- record, with memories of zeros in document 01's lengths and no irq2 cycles; no record is prepared by hand.
 use Prim.Native.Nat.{ℕ}
 use mathlib.Core.Path.{_≡_, refl}
@@ -14,6 +14,8 @@ use Rattle.isa.specs.Operations.{operationOf, calculate, sub}
 use Rattle.isa.specs.Registers.{irq0status, irq1status, irq2status, irqreturn, clks, timerenable, timercurrent, timermax, diskcmd, diskstatus}
 use Rattle.summary.specs.Milliseconds.{milliseconds}
 use Rattle.summary.specs.ClosingLines.{lineE}
+use Rattle.bitpack.specs.Format.{bytesOfRecord}
+use Rattle.devices.specs.Bus.{driveOf, freeDrive}
 use Rattle.saved.specs.Layout.{savedBytes}
 use Rattle.claim.specs.Calls.{none}
 use Rattle.runner.specs.Lab.{recordIn}
@@ -56,24 +58,30 @@ pub record Worked : Type 0 where
   pub disk-in-10 : linesAt disk 10 1
       ≡ bytes "T 00A 14010200E001 00000000 0000000E 00000001 00000000 00000000 00000000 00000000 00000000 00000000 00000000 00000000 00000000 00000000 00000000 00000000 00000000\n"
       ++ bytes "H 10 WRITE diskcmd 00000001\n"
-  pub disk-begins : plain disk 11 .core ≡ record { status = 0; handler = 0; pc = 11; age = 11; left = 1024 }
+  pub disk-begins : plain disk 11 .core ≡ record { status = 0; handler = 0; pc = 11; age = 11; drive = driveOf 1024 0 0 }
   pub disk-in-1034 : linesAt disk 1034 2
       ≡ bytes "T 00B 137010011000 00000000 00000011 00000000 00000000 00000000 00000000 00000000 00000001 00000001 00000000 00000000 00000000 00000000 00000000 00000000 00000000\n"
       ++ bytes "H 1034 READ diskstatus 00000001\n"
       ++ bytes "T 00C 138010011000 00000000 00000011 00000000 00000000 00000000 00000000 00000000 00000001 00000001 00000000 00000000 00000000 00000000 00000000 00000000 00000000\n"
       ++ bytes "H 1035 READ diskstatus 00000000\n"
-  -- "diskbuffer 3968 accepted, 3969 status 5": sector 0, whose words are 5, is M's last 128 words then.
-  pub buffer-accepted : plain buffer3968 2 .core ≡ record { status = 0; handler = 0; pc = 2; age = 2; left = 1024 }
-  pub buffer-filled : plainFrom buffer3968 [] (freshWith (replicate 4096 0) (replicate 128 5 ++ replicate 16256 0)) 2 .memory
+  -- "diskbuffer 3968 accepted, 3969 status 5": the command of cycle 1, of sector 0, whose words are 5, to M's last 128 words: "word k
+  -- of the sector, k from 0 to 127, in the disk's step of cycle c+8(k+1)". None has moved after cycle 8, word 0 after 9, all but the last after 1024, all after 1025.
+  pub buffer-accepted : plain buffer3968 2 .core ≡ record { status = 0; handler = 0; pc = 2; age = 2; drive = driveOf 1024 0 3968 }
+  pub buffer-to-9 : plainFrom buffer3968 [] (freshWith (replicate 4096 0) (replicate 128 5 ++ replicate 16256 0)) 9 .memory ≡ replicate 4096 0
+  pub buffer-from-9 : plainFrom buffer3968 [] (freshWith (replicate 4096 0) (replicate 128 5 ++ replicate 16256 0)) 10 .memory ≡ replicate 3968 0 ++ (5 ∷ replicate 127 0)
+  pub buffer-to-1025 : plainFrom buffer3968 [] (freshWith (replicate 4096 0) (replicate 128 5 ++ replicate 16256 0)) 1025 .memory
+      ≡ replicate 3968 0 ++ (replicate 127 5 ++ (0 ∷ []))
+  pub buffer-filled : plainFrom buffer3968 [] (freshWith (replicate 4096 0) (replicate 128 5 ++ replicate 16256 0)) 1026 .memory
       ≡ replicate 3968 0 ++ replicate 128 5
-  pub buffer-refused : plain buffer3969 2 .core ≡ record { status = 5; handler = 0; pc = 1; age = 2; left = 0 }
+  pub buffer-done : plain buffer3968 1026 .core .drive ≡ freeDrive
+  pub buffer-refused : plain buffer3969 2 .core ≡ record { status = 5; handler = 0; pc = 1; age = 2; drive = freeDrive }
   pub buffer-free : IO (diskcmd ∷ diskstatus ∷ []) (plain buffer3969 2) ≡ 0 ∷ 0 ∷ []
   -- "address 4095 read, 4096 status 3": M's last word is 0xABC.
   pub address-read : R 8 (plainFrom loads [] (freshWith (replicate 4095 0 ++ (0xABC ∷ [])) (replicate 16384 0)) 2) ≡ 0xABC
-  pub address-fault : plain loads 3 .core ≡ record { status = 3; handler = 0; pc = 2; age = 3; left = 0 }
+  pub address-fault : plain loads 3 .core ≡ record { status = 3; handler = 0; pc = 2; age = 3; drive = freeDrive }
   -- "64 cycles are 63 ms"
   pub cycles-64 : milliseconds 64 ≡ 63
-  -- "the run above saves as 01 20 01 00 00 00 00 02 and on": its input is read; the plain machine logs the lines that document 01 prints, and makes no
+  -- "the run above saves as 01 20 01 00 00 00 00 02 and on", which "now begins 02, its next seven bytes as before": its input is read; the plain machine logs the lines that document 01 prints, and makes no
   -- third cycle; so does the run call, and log bytes beyond keep their contents; with one byte too few for those lines it makes one cycle; and the
   -- record that it returns saves so.
   pub run-input : inputOutcome ≡ accepted 0
@@ -100,14 +108,14 @@ pub record Worked : Type 0 where
         trip-left = none;
       }
   pub run-saves : savedBytes (recordIn (runAbove 370 .lent .state))
-      ≡ (0x01 ∷ 0x20 ∷ 0x01 ∷ 0x00 ∷ 0x00 ∷ 0x00 ∷ 0x00 ∷ 0x02 ∷ [])
-      ++ replicate 60 0
-      ++ (0x01 ∷ 0x00 ∷ 0x00 ∷ 0x00 ∷ 0x02 ∷ 0x80 ∷ [])
-      ++ replicate 17 0
+      ≡ (0x02 ∷ 0x20 ∷ 0x01 ∷ 0x00 ∷ 0x00 ∷ 0x00 ∷ 0x00 ∷ 0x02 ∷ [])
+      ++ replicate 63 0
+      ++ (0x20 ∷ 0x00 ∷ 0x00 ∷ 0x00 ∷ 0x50 ∷ [])
+      ++ replicate 18 0
   pub run-closes : lineE (halted .core .status) (halted .core .age) ≡ bytes "E 1 2 2\n"
   -- "Mistakes to exclude: clearing the status bits on entry (001)": irq2 requests an interrupt in cycle 4 at PC 4, all three status bits being 1; the cycle executes the
   -- handler's first word.
-  pub entry-rises : plainFrom requestsIrq2 (4 ∷ []) fresh 5 .core ≡ record { status = 0; handler = 1; pc = 0x21; age = 5; left = 0 }
+  pub entry-rises : plainFrom requestsIrq2 (4 ∷ []) fresh 5 .core ≡ record { status = 0; handler = 1; pc = 0x21; age = 5; drive = freeDrive }
   pub entry-keeps : IO (irqreturn ∷ irq0status ∷ irq1status ∷ irq2status ∷ []) (plainFrom requestsIrq2 (4 ∷ []) fresh 5) ≡ 4 ∷ 1 ∷ 1 ∷ 1 ∷ []
   -- "an L line for an unchanged out (002)": the lines of the second out.
   pub unchanged : linesAt ledsTwice 1 1
@@ -117,11 +125,11 @@ pub record Worked : Type 0 where
   pub branch-taken : plain equalNotRd 1 .core .pc ≡ 0x123
   pub branch-not-taken : plain unequalRd 1 .core .pc ≡ 1
   -- "a halt or fault whose cycle isn't counted": a halt is `run-ends`; opcode 22, in age and in clks.
-  pub fault-counted : plain opcode22 1 .core ≡ record { status = 2; handler = 0; pc = 0; age = 1; left = 0 }
+  pub fault-counted : plain opcode22 1 .core ≡ record { status = 2; handler = 0; pc = 0; age = 1; drive = freeDrive }
   pub fault-clks : IO (clks ∷ []) (plain opcode22 1) ≡ 1 ∷ []
 
 pub worked : Worked
-unfolding plainFrom linesFrom inputOutcome inputImage runAbove savedBytes bytesOf bits lineE milliseconds decimal digitCount digitCountUpTo
+unfolding plainFrom linesFrom inputOutcome inputImage runAbove bytesOfRecord bytesOf bits lineE milliseconds decimal digitCount digitCountUpTo
 worked =
     record {
       sub-is = refl;
@@ -147,7 +155,11 @@ worked =
       disk-begins = refl;
       disk-in-1034 = refl;
       buffer-accepted = refl;
+      buffer-to-9 = refl;
+      buffer-from-9 = refl;
+      buffer-to-1025 = refl;
       buffer-filled = refl;
+      buffer-done = refl;
       buffer-refused = refl;
       buffer-free = refl;
       address-read = refl;

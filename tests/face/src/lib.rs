@@ -12,8 +12,8 @@ pub struct Told {
     pub count: u64,
 }
 
-/// A record as 38 numbers in the saved order.
-pub type Numbers = [u64; 38];
+/// A record as 40 numbers in the saved order: status, flag, PC, age, left, sector, buffer, R3 to R15, the I/O registers of `RECORD_IO`.
+pub type Numbers = [u64; 40];
 
 /// What stands in places and counts before a call, so that one that is not written is seen.
 const UNWRITTEN: u64 = 0x5A5A_5A5A_5A5A_5A5A;
@@ -132,18 +132,22 @@ pub fn run(lent: &mut Lent, irq2: &[u64], budget: u64) -> u32 {
     }
 }
 
+/// The place of R3 among a record's numbers, and of I/O register 0.
+pub const R3: usize = 7;
+pub const IO_0: usize = 20;
+
 /// The I/O numbers of a record's numbers.
 pub const RECORD_IO: [usize; 20] = [0, 1, 2, 3, 4, 5, 6, 7, 8, 9, 10, 11, 12, 13, 14, 15, 16, 17, 20, 21];
 
 /// A record as numbers, ..
 pub fn numbers_of(r: &reference::record::Record) -> Numbers {
-    let mut n = [0; 38];
-    n[..5].copy_from_slice(&[r.status as u64, r.flag as u64, r.pc as u64, r.age, r.left as u64]);
+    let mut n = [0; 40];
+    n[..R3].copy_from_slice(&[r.status as u64, r.flag as u64, r.pc as u64, r.age, r.left as u64, r.sector as u64, r.buffer as u64]);
     for i in 0..13 {
-        n[5 + i] = r.r[i] as u64;
+        n[R3 + i] = r.r[i] as u64;
     }
     for (i, io) in RECORD_IO.iter().enumerate() {
-        n[18 + i] = r.io[*io] as u64;
+        n[IO_0 + i] = r.io[*io] as u64;
     }
     n
 }
@@ -157,11 +161,13 @@ pub fn record_of(n: &[u64]) -> Option<reference::record::Record> {
     r.pc = narrow(n[2])?;
     r.age = n[3];
     r.left = narrow(n[4])?;
+    r.sector = narrow(n[5])?;
+    r.buffer = narrow(n[6])?;
     for i in 0..13 {
-        r.r[i] = narrow(n[5 + i])?;
+        r.r[i] = narrow(n[R3 + i])?;
     }
     for (i, io) in RECORD_IO.iter().enumerate() {
-        r.io[*io] = narrow(n[18 + i])?;
+        r.io[*io] = narrow(n[IO_0 + i])?;
     }
     Some(r)
 }

@@ -1,4 +1,6 @@
-//! Random choices from a seed, and how many turns a test makes.
+//! Random choices from a seed, how many turns a test makes, and what it has met in them.
+
+use std::sync::atomic::{AtomicU64, Ordering};
 
 /// Marsaglia's xorshift of 64 bits.
 #[derive(Clone)]
@@ -64,14 +66,44 @@ impl Random {
     }
 }
 
-/// Makes a test's turns, each with its seed: as many as TURNS says, or `usual` without it; from SEED on, if it is given. A turn that fails says how to repeat it.
-pub fn turns(usual: u64, name: &str, turn: impl Fn(u64) + std::panic::RefUnwindSafe) {
+/// Makes a test's turns, each with its seed: as many as TURNS says, or `usual` without it; from SEED on, if it is given. A turn that fails says how to repeat it. Answers whether
+/// the turns were as many as usual, or more.
+pub fn turns(usual: u64, name: &str, turn: impl Fn(u64) + std::panic::RefUnwindSafe) -> bool {
     let number = |key: &str, else_: u64| std::env::var(key).ok().filter(|v| !v.is_empty()).map_or(else_, |v| v.parse().expect("a number"));
     let (first, count) = (number("SEED", 1), number("TURNS", usual));
     for seed in first..first + count {
         if let Err(failure) = std::panic::catch_unwind(|| turn(seed)) {
             eprintln!("seed {seed} fails; again: SEED={seed} TURNS=1 cargo test --release -p face {name}");
             std::panic::resume_unwind(failure);
+        }
+    }
+    count >= usual
+}
+
+/// How often a test has met each of the cases that it is for, so that none of them can go missing unseen.
+pub struct Met(Vec<(&'static str, AtomicU64)>);
+
+impl Met {
+    pub fn of(cases: &[&'static str]) -> Met {
+        Met(cases.iter().map(|case| (*case, AtomicU64::new(0))).collect())
+    }
+
+    /// Met once more.
+    pub fn one(&self, case: &str) {
+        self.more(case, 1);
+    }
+
+    /// Met so many times more.
+    pub fn more(&self, case: &str, times: u64) {
+        let counted = self.0.iter().find(|counted| counted.0 == case);
+        counted.unwrap_or_else(|| panic!("no case {case}")).1.fetch_add(times, Ordering::Relaxed);
+    }
+
+    /// After the usual turns each case must have been met so often.
+    pub fn each(&self, is_usual: bool, least: u64) {
+        for (case, count) in &self.0 {
+            let count = count.load(Ordering::Relaxed);
+            assert!(!is_usual || count >= least, "{case}: met only {count} times");
         }
     }
 }

@@ -1,7 +1,8 @@
 //! Random texts: assembly, memory files, irq2 files; good for the most part.
 
 use crate::random::Random;
-use reference::names::{OPS, REGISTERS};
+use crate::{Numbers, IO_0, R3};
+use reference::names::{DISKBUFFER, DISKCMD, DISKSECTOR, DISKSTATUS, OPS, REGISTERS, TIMERCURRENT, TIMERMAX};
 
 const IMMEDIATES: [&str; 13] = ["0", "1", "-1", "7", "2047", "0000002047", "-2048", "0xFFF", "0x800", "0x7ff", "-0", "0000000012", "0x00000ABC"];
 const ADDRESSES: [&str; 5] = ["0", "1", "4095", "0xFFF", "-0"];
@@ -159,9 +160,54 @@ pub fn program(r: &mut Random, length: usize) -> Vec<u64> {
     image
 }
 
+/// The words of a program that keeps the disk at work: a loop with commands, outs to disksector and diskbuffer, busy or not, and stores and loads near the buffers, which lie
+/// from 0 to 2047, now and then with any other instruction among them.
+pub fn disk_program(r: &mut Random, length: usize) -> Vec<u64> {
+    let mut image = program(r, length);
+    let (imm1, imm2, zero) = (1, 2, 0);
+    let word = |op: u64, rd: u64, rs: u64, rt: u64, rm: u64, a: u64, b: u64| op << 40 | rd << 36 | rs << 32 | rt << 28 | rm << 24 | a << 12 | b;
+    let (lw, sw, input, output, beq) = (16, 17, 19, 20, 9);
+    for at in 0..length {
+        let register = 3 + r.below(13);
+        let address = if r.once_in(2) { r.below(160) } else { r.below(2048) };
+        image[at] = match r.below(16) {
+            0 | 1 => word(output, zero, imm1, zero, imm2, DISKCMD as u64, 1 + r.below(2)),
+            2 => word(output, zero, imm1, zero, register, DISKCMD as u64, 0),
+            3 => word(output, zero, imm1, zero, imm2, DISKSECTOR as u64, r.below(128)),
+            4 => word(output, zero, imm1, zero, imm2, DISKBUFFER as u64, address),
+            // Above 3968 it is the register's only, as long as the disk is busy.
+            5 if r.once_in(4) => {
+                let near = if r.once_in(2) { 3967 + r.below(4) } else { 3960 + r.below(136) };
+                word(output, zero, imm1, zero, imm2, DISKBUFFER as u64, near)
+            }
+            5 | 6 => word(input, register, imm1, zero, zero, 14 + r.below(4), 0),
+            7..=10 => word(sw, register, imm1, zero, register, address, 0),
+            11..=13 => word(lw, register, imm1, zero, register, address, 0),
+            14 => word(0, register, register, imm1, zero, r.below(4096), 0),
+            _ => image[at],
+        };
+    }
+    if length > 0 {
+        image[length - 1] = word(beq, zero, zero, zero, imm1, 0, 0);
+    }
+    image
+}
+
+/// Sets the numbers of the disk: busy with a command for any sector and buffer, whatever disksector and diskbuffer hold; now and then near or past the limits.
+pub fn make_busy(r: &mut Random, n: &mut Numbers) {
+    n[4] = match r.below(4) {
+        0 => 1 + r.below(9),
+        1 => 1016 + r.below(9),
+        _ => 1 + r.below(1024),
+    };
+    (n[IO_0 + DISKCMD], n[IO_0 + DISKSTATUS]) = (1 + r.below(2), 1);
+    n[5] = if r.once_in(10) { 126 + r.below(3) } else { r.below(128) };
+    n[6] = if r.once_in(10) { 3966 + r.below(4) } else { r.below(3969) };
+}
+
 /// A record, sound for the most part, with interrupts, timer and disk at work.
-pub fn record(r: &mut Random) -> [u64; 38] {
-    let mut n = [0u64; 38];
+pub fn record(r: &mut Random) -> Numbers {
+    let mut n = [0u64; 40];
     if r.once_in(8) {
         return n;
     }
@@ -175,27 +221,71 @@ pub fn record(r: &mut Random) -> [u64; 38] {
         2 => 10u64.pow(1 + r.below(12) as u32) - r.below(6),
         _ => r.below(3000),
     };
-    for i in 5..18 {
+    for i in R3..R3 + 13 {
         n[i] = r.any(32);
     }
     let widths = [1, 1, 1, 1, 1, 1, 12, 12, 32, 32, 32, 1, 32, 32, 0, 7, 12, 0, 16, 8];
     for (i, bits) in widths.iter().enumerate() {
-        n[18 + i] = r.any(*bits).min((1u64 << bits) - 1);
+        n[IO_0 + i] = r.any(*bits).min((1u64 << bits) - 1);
     }
     if r.once_in(3) {
-        n[31] = n[30];
+        n[IO_0 + TIMERMAX] = n[IO_0 + TIMERCURRENT];
     }
     if r.once_in(3) {
-        (n[4], n[32], n[35]) = (1 + r.below(1024), 1 + r.below(2), 1);
-        if r.once_in(2) {
-            n[4] = 1 + r.below(8);
-        }
+        make_busy(r, &mut n);
     }
     if r.once_in(10) {
-        let at = r.below(38) as usize;
+        let at = r.below(40) as usize;
         n[at] = r.any(64);
     }
     n
+}
+
+/// A record that is sound in a run or a save.
+pub fn sound_record(r: &mut Random, is_wanted: impl Fn(&Numbers) -> bool) -> Numbers {
+    loop {
+        let n = record(r);
+        if is_wanted(&n) && crate::record_of(&n).is_some_and(|record| reference::record::is_sound(&record)) {
+            return n;
+        }
+    }
+}
+
+/// The bytes of a saved record of either edition, good or damaged: bits changed, the edition another of 0 to 3, bytes cut off or added; or any bytes behind such an edition.
+pub fn saved_record(r: &mut Random) -> Vec<u8> {
+    let mut n = record(r);
+    if r.once_in(3) {
+        make_busy(r, &mut n);
+    }
+    let mut record = crate::record_of(&n).unwrap_or_else(reference::record::Record::fresh);
+    if r.once_in(12) {
+        // Unsound in both editions.
+        record.status = 6 + r.below(2) as u32;
+    }
+    let mut bytes = match r.below(8) {
+        0 => (0..[91, 94][r.below(2) as usize]).map(|_| r.next() as u8).collect(),
+        1..=3 => reference::record::edition_1(&record).to_vec(),
+        _ => {
+            let mut bytes = vec![0; 94];
+            let _ = reference::record::save(&record, &mut bytes);
+            bytes
+        }
+    };
+    for _ in 0..r.below(3) {
+        let at = r.below(bytes.len() as u64) as usize;
+        bytes[at] ^= 1 << r.below(8);
+    }
+    if r.once_in(20) {
+        *bytes.last_mut().expect("a byte") |= 1 + r.below(31) as u8;
+    }
+    if r.once_in(6) {
+        let length = if r.once_in(2) { [91, 94][r.below(2) as usize] } else { [0, 1, 90, 92, 93, 95, r.below(200) as usize][r.below(7) as usize] };
+        bytes.resize(length, 0);
+    }
+    if r.once_in(6) && !bytes.is_empty() {
+        bytes[0] = r.below(4) as u8;
+    }
+    bytes
 }
 
 /// A rising list of irq2 cycles near an age, now and then not rising.

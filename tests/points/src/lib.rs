@@ -1,7 +1,7 @@
 //! The calls of the proved library, with the names and answers of the second implementation (`plain`). What is no call, as the plain machine of demand 3 and the E line, is `plain`'s.
 
 pub use plain::{machine, names, simlog, text, Refusal};
-pub use plain::{AGE_LIMIT, DATA_WORDS, DISK_SECTORS, DISK_WORDS, FRAME_BYTES, IMAGE_WORDS, LISTED_WORDS, LOW_48_BITS, RECORD_BYTES, SECTOR_WORDS, SOURCE_BYTES};
+pub use plain::{AGE_LIMIT, DATA_WORDS, DISK_SECTORS, DISK_WORDS, EDITION_1_BYTES, FRAME_BYTES, IMAGE_WORDS, LISTED_WORDS, LOW_48_BITS, RECORD_BYTES, SECTOR_WORDS, SOURCE_BYTES};
 
 /// What a call told as a result.
 fn result(told: face::Told) -> Result<usize, Refusal> {
@@ -77,9 +77,9 @@ pub mod hex {
 
 pub mod record {
     use super::Refusal;
-    pub use plain::record::{is_sound, ReadAnswer, Record};
+    pub use plain::record::{edition_1, is_sound, ReadAnswer, Record};
 
-    /// The 38 numbers have no place for the I/O registers 18, 19 and 22: a record that holds something there can't be handed over.
+    /// The 40 numbers have no place for the I/O registers 18, 19 and 22: a record that holds something there can't be handed over.
     pub(crate) fn can_be_lent(record: &Record) -> bool {
         [18, 19, 22].iter().all(|io| record.io[*io] == 0)
     }
@@ -95,7 +95,7 @@ pub mod record {
     }
 
     pub fn read(bytes: &[u8]) -> ReadAnswer {
-        let mut numbers = [0xA5; 38];
+        let mut numbers = [0xA5; 40];
         let number = face::load(bytes, &mut numbers);
         ReadAnswer { refusal: (number != 0).then(|| Refusal::new(number, 0)), record: face::record_of(&numbers).expect("fields that fit") }
     }

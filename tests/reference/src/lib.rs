@@ -31,8 +31,10 @@ pub const FRAME_BYTES: usize = 65_536;
 pub const SOURCE_BYTES: usize = 262_144;
 /// "listed part up to 4,096 words"
 pub const LISTED_WORDS: usize = 4096;
-/// "91 bytes, bit-packed"
-pub const RECORD_BYTES: usize = 91;
+/// "The saved record becomes edition 2: … 94 bytes."
+pub const RECORD_BYTES: usize = 94;
+/// Edition 1, document 01's: "91 bytes, bit-packed"
+pub const EDITION_1_BYTES: usize = 91;
 /// "age = 2^40-1 (reason 3)"
 pub const AGE_LIMIT: u64 = (1 << 40) - 1;
 /// "bits above 47 are not read"

@@ -4,6 +4,13 @@ use crate::names::*;
 use crate::record::Record;
 use crate::{AGE_LIMIT, LOW_48_BITS, SECTOR_WORDS};
 
+/// "left = 1024"; a command is the disk's work for so many cycles.
+pub const DISK_CYCLES: u32 = 1024;
+/// "moves word k of the sector … in the disk's step of cycle c+8(k+1)"
+pub const CYCLES_A_WORD: u32 = 8;
+/// "While busy the buffer is at most 3968"
+pub const LAST_DISKBUFFER: u32 = 3968;
+
 /// "Status: 0 running, 1 halted, 2 opcode above 21, 3 data address above 4095, 4 I/O number not
 /// listed, 5 diskbuffer above 3968 at a disk command, which is then not accepted."
 pub const RUNNING: u32 = 0;
@@ -59,7 +66,7 @@ pub fn sign_extended(immediate: u32) -> i32 {
     }
 }
 
-/// The one change that a cycle makes to data memory, disk or frame.
+/// The one change that step 4 makes to data memory or frame.
 #[derive(Clone, Copy, Debug, PartialEq, Eq)]
 pub enum MemoryChange {
     Nothing,
@@ -68,16 +75,6 @@ pub enum MemoryChange {
         address: usize,
         value: u32,
     },
-    /// "A read command copies sector disksector to M from diskbuffer up"
-    SectorToData {
-        sector: usize,
-        buffer: usize,
-    },
-    /// "a write command copies back"
-    DataToSector {
-        sector: usize,
-        buffer: usize,
-    },
     /// "writing an odd value sets frame[monitoraddr] to monitordata"
     Pixel {
         address: usize,
@@ -85,12 +82,30 @@ pub enum MemoryChange {
     },
 }
 
-/// What one cycle gives: the record after it, its log lines, and its change to the memories.
+/// The one word that step 6 moves, between a place of the disk and an address of the data memory.
+#[derive(Clone, Copy, Debug, PartialEq, Eq)]
+pub enum DiskMove {
+    Nothing,
+    /// a read command's
+    ToData {
+        disk: usize,
+        address: usize,
+    },
+    /// a write command's
+    ToDisk {
+        disk: usize,
+        address: usize,
+    },
+}
+
+/// What one cycle gives: the record after it, its log lines, and what it does to the memories:
+/// step 4's change, and after it step 6's word (D2).
 #[derive(Clone, Debug, PartialEq, Eq)]
 pub struct Cycle {
     pub record: Record,
     pub lines: String,
     pub change: MemoryChange,
+    pub moved: DiskMove,
 }
 
 /// "T: PC (3 digits), word (12), R0 to R15 (8 each) before execution."
@@ -120,7 +135,7 @@ fn set_register(record: &mut Record, number: usize, value: u32) {
 }
 
 /// "One cycle of the plain machine, c being the age before it". The memories stay as they are;
-/// `change` says what the cycle does to them, and `apply` does it.
+/// `change` and `moved` say what the cycle does to them, and `apply` does it.
 pub fn one_cycle(before: &Record, image: &[u64], data: &[u32], irq2: &[u64]) -> Cycle {
     let c = before.age;
     let left_when_the_cycle_began = before.left;
@@ -274,13 +289,18 @@ pub fn one_cycle(before: &Record, image: &[u64], data: &[u32], irq2: &[u64]) -> 
     }
 
     // 6. "If left was above 0 when the cycle began, it falls by one; on reaching 0, diskcmd = 0,
-    // diskstatus = 0, irq1status = 1."
+    // diskstatus = 0, irq1status = 1." A halt or a fault doesn't keep its word from moving (D6).
+    let mut moved = DiskMove::Nothing;
     if left_when_the_cycle_began > 0 {
         m.left -= 1;
+        moved = word_moved(&m);
         if m.left == 0 {
             m.io[DISKCMD] = 0;
             m.io[DISKSTATUS] = 0;
             m.io[IRQ1STATUS] = 1;
+            // "both zero when free"
+            m.sector = 0;
+            m.buffer = 0;
         }
     }
 
@@ -292,6 +312,26 @@ pub fn one_cycle(before: &Record, image: &[u64], data: &[u32], irq2: &[u64]) -> 
         record: m,
         lines,
         change,
+        moved,
+    }
+}
+
+/// "A command accepted in cycle c moves word k of the sector, k from 0 to 127, in the disk's step
+/// of cycle c+8(k+1)." The record is the one in that step, left having fallen: 1024 - left cycles
+/// have passed since cycle c.
+fn word_moved(m: &Record) -> DiskMove {
+    let passed = DISK_CYCLES - m.left;
+    if passed % CYCLES_A_WORD != 0 {
+        return DiskMove::Nothing;
+    }
+    let k = (passed / CYCLES_A_WORD - 1) as usize;
+    let disk = m.sector as usize * SECTOR_WORDS + k;
+    let address = m.buffer as usize + k;
+    // diskcmd holds the command while the disk is busy, in the last cycle too (D5).
+    if m.io[DISKCMD] == 1 {
+        DiskMove::ToData { disk, address }
+    } else {
+        DiskMove::ToDisk { disk, address }
     }
 }
 
@@ -320,22 +360,16 @@ fn execute_out(
                 return;
             }
             // "5 diskbuffer above 3968 at a disk command, which is then not accepted"
-            if m.io[DISKBUFFER] > 3968 {
+            if m.io[DISKBUFFER] > LAST_DISKBUFFER {
                 m.status = BAD_DISKBUFFER;
                 return;
             }
-            // "A read command copies sector disksector to M from diskbuffer up, a write command
-            // copies back, whole, in this step; left = 1024, diskstatus = 1."
-            let sector = m.io[DISKSECTOR] as usize;
-            let buffer = m.io[DISKBUFFER] as usize;
-            *change = if command == 1 {
-                MemoryChange::SectorToData { sector, buffer }
-            } else {
-                MemoryChange::DataToSector { sector, buffer }
-            };
+            // "left = 1024, diskstatus = 1." "Sector and buffer are taken at acceptance."
             m.io[DISKCMD] = command;
-            m.left = 1024;
+            m.left = DISK_CYCLES;
             m.io[DISKSTATUS] = 1;
+            m.sector = m.io[DISKSECTOR];
+            m.buffer = m.io[DISKBUFFER];
         }
         // "monitorcmd always holds 0; writing an odd value sets frame[monitoraddr] to monitordata."
         MONITORCMD => {
@@ -361,22 +395,17 @@ fn execute_out(
     }
 }
 
-/// Does a cycle's change to the memories.
-pub fn apply(change: MemoryChange, data: &mut [u32], disk: &mut [u32], frame: &mut [u8]) {
-    match change {
+/// Does to the memories what a cycle does: step 4's change, then step 6's word (D2).
+pub fn apply(cycle: &Cycle, data: &mut [u32], disk: &mut [u32], frame: &mut [u8]) {
+    match cycle.change {
         MemoryChange::Nothing => {}
         MemoryChange::DataWord { address, value } => data[address] = value,
-        MemoryChange::SectorToData { sector, buffer } => {
-            for w in 0..SECTOR_WORDS {
-                data[buffer + w] = disk[sector * SECTOR_WORDS + w];
-            }
-        }
-        MemoryChange::DataToSector { sector, buffer } => {
-            for w in 0..SECTOR_WORDS {
-                disk[sector * SECTOR_WORDS + w] = data[buffer + w];
-            }
-        }
         MemoryChange::Pixel { address, value } => frame[address] = value,
+    }
+    match cycle.moved {
+        DiskMove::Nothing => {}
+        DiskMove::ToData { disk: at, address } => data[address] = disk[at],
+        DiskMove::ToDisk { disk: at, address } => disk[at] = data[address],
     }
 }
 
@@ -428,12 +457,7 @@ impl PlainMachine {
             return false;
         }
         let cycle = one_cycle(&self.record, &self.image, &self.data, &self.irq2);
-        apply(
-            cycle.change,
-            &mut self.data,
-            &mut self.disk,
-            &mut self.frame,
-        );
+        apply(&cycle, &mut self.data, &mut self.disk, &mut self.frame);
         self.record = cycle.record;
         self.log.extend_from_slice(cycle.lines.as_bytes());
         true

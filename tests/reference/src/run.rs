@@ -95,7 +95,7 @@ pub fn run(
         }
         log[log_bytes..log_bytes + lines.len()].copy_from_slice(lines);
         log_bytes += lines.len();
-        apply(cycle.change, data, disk, frame);
+        apply(&cycle, data, disk, frame);
         now = cycle.record;
         cycles += 1;
     }

@@ -1,4 +1,4 @@
-//! The open points M1 to M20.
+//! The open points M1 to M20; of M6, what D1 (open_points_disk.rs) leaves of it.
 
 mod common;
 use common::*;
@@ -141,6 +141,10 @@ fn m4_the_low_two_bits() {
         lab.cycle();
         assert_eq!(lab.record.io[DISKCMD], kept);
         assert_eq!(lab.record.left, if kept == 0 { 0 } else { 1024 });
+        // word 5 moves in cycle 8·(5+1), by the command
+        lab.run(47);
+        assert_eq!((lab.disk[128 * 3 + 5], lab.data[200 + 5]), (77, 88));
+        lab.cycle();
         let expected = match kept {
             1 => (77, 77),
             2 => (88, 88),
@@ -176,7 +180,7 @@ fn m5_sector_and_buffer_take_writes_while_busy() {
 }
 
 #[test]
-fn m6_whole_in_this_step() {
+fn m6_diskcmd_reads_back_and_the_whole_sector_moves() {
     let mut lab = Lab::of(&format!("{}in $v0, $zero, $imm1, $zero, 14, 0", out_a0(14)));
     lab.set_r(4, 1);
     for w in 0..16384 {
@@ -185,6 +189,10 @@ fn m6_whole_in_this_step() {
     lab.record.io[DISKSECTOR] = 127;
     lab.record.io[DISKBUFFER] = 10;
     lab.cycle();
+    assert_eq!(lab.cycle(), "H 1 READ diskcmd 00000001");
+    assert_eq!(lab.r(3), 1);
+    lab.run(1023);
+    assert_eq!((lab.record.age, lab.record.left), (1025, 0));
     for w in 0..4096 {
         let expected = if (10..138).contains(&w) {
             16256 + (w - 10) + 1
@@ -193,10 +201,8 @@ fn m6_whole_in_this_step() {
         };
         assert_eq!(lab.data[w as usize], expected);
     }
-    assert_eq!(lab.cycle(), "H 1 READ diskcmd 00000001");
-    assert_eq!(lab.r(3), 1);
 
-    let mut lab = Lab::of(&out_a0(14));
+    let mut lab = Lab::of(&format!("{}in $v0, $zero, $imm1, $zero, 14, 0", out_a0(14)));
     lab.set_r(4, 2);
     for w in 0..4096 {
         lab.data[w] = w as u32 + 1;
@@ -204,6 +210,9 @@ fn m6_whole_in_this_step() {
     lab.record.io[DISKSECTOR] = 2;
     lab.record.io[DISKBUFFER] = 3968;
     lab.cycle();
+    assert_eq!(lab.cycle(), "H 1 READ diskcmd 00000002");
+    lab.run(1023);
+    assert_eq!((lab.record.age, lab.record.left), (1025, 0));
     for w in 0..16384 {
         let expected = if (256..384).contains(&w) {
             3968 + (w - 256) + 1

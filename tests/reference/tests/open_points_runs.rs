@@ -188,12 +188,12 @@ fn r6_any_budget() {
     assert_eq!((answer.reason, answer.cycles), (1, 1));
 }
 
-fn saved(record: &Record) -> Result<[u8; 91], (u32, usize)> {
-    let mut bytes = [0xEE; 91];
+fn saved(record: &Record) -> Result<[u8; 94], (u32, usize)> {
+    let mut bytes = [0xEE; 94];
     match save(record, &mut bytes) {
         Ok(()) => Ok(bytes),
         Err(refusal) => {
-            assert_eq!(bytes, [0xEE; 91]);
+            assert_eq!(bytes, [0xEE; 94]);
             Err((refusal.number, refusal.place))
         }
     }
@@ -284,8 +284,8 @@ fn s2_soundness() {
 }
 
 #[test]
-fn s3_any_length_but_91_is_1() {
-    for length in [0, 90, 92, 100] {
+fn s3_any_length_but_94_is_1() {
+    for length in [0, 90, 92, 93, 95, 100] {
         let mut bytes = vec![1; length];
         assert_eq!(pair(save(&Record::fresh(), &mut bytes)), Err((1, 0)));
         assert!(bytes.iter().all(|byte| *byte == 1));
@@ -295,18 +295,18 @@ fn s3_any_length_but_91_is_1() {
     // 1 before 13
     let mut record = Record::fresh();
     record.status = 6;
-    assert_eq!(pair(save(&record, &mut [0; 90])), Err((1, 0)));
+    assert_eq!(pair(save(&record, &mut [0; 93])), Err((1, 0)));
 }
 
 #[test]
 fn s4_reading() {
     let good = saved(&Record::fresh()).unwrap();
-    let mut expected = [0; 91];
-    expected[0] = 1;
+    let mut expected = [0; 94];
+    expected[0] = 2;
     assert_eq!(good, expected);
     assert_eq!(read(&good).refusal, None);
     // 14 before 13
-    for edition in [0, 2, 255] {
+    for edition in [0, 1, 255] {
         let mut bytes = good;
         bytes[0] = edition;
         assert_eq!(read(&bytes).refusal, no(14));
@@ -327,7 +327,7 @@ fn s4_reading() {
     }
 }
 
-/// The saved form once more, as one number in hex, field by field, from the widths of document 01.
+/// The saved form once more, bit by bit, from the widths of documents 01 and 02.
 #[test]
 fn saved_fields_stand_in_their_order_and_widths() {
     let record = Record {
@@ -336,6 +336,8 @@ fn saved_fields_stand_in_their_order_and_widths() {
         pc: 0xABC,
         age: 0x12_3456_789A,
         left: 1024,
+        sector: 0x2A,
+        buffer: 0xF7F,
         r: [
             0x11111111, 0x22222222, 0x33333333, 0x44444444, 0x55555555, 0x66666666, 0x77777777,
             0x88888888, 0x99999999, 0xAAAAAAAA, 0xBBBBBBBB, 0xCCCCCCCC, 0xDDDDDDDD,
@@ -346,12 +348,14 @@ fn saved_fields_stand_in_their_order_and_widths() {
         ],
     };
     let mut bits = String::new();
-    bits += "00000001"; // edition
+    bits += "00000010"; // edition
     bits += "101"; // status 5
     bits += "1"; // flag
     bits += "101010111100"; // PC ABC
     bits += "0001001000110100010101100111100010011010"; // age
     bits += "10000000000"; // left 1024
+    bits += "0101010"; // the command's sector 2A
+    bits += "111101111111"; // its buffer F7F
     for digit in [
         "0001", "0010", "0011", "0100", "0101", "0110", "0111", "1000", "1001", "1010", "1011",
         "1100", "1101",
@@ -373,8 +377,9 @@ fn saved_fields_stand_in_their_order_and_widths() {
     bits += "1"; // diskstatus
     bits += "1011111010101101"; // monitoraddr
     bits += "01011010"; // monitordata
-    assert_eq!(bits.len(), 728);
-    let expected: Vec<u8> = (0..91)
+    bits += "00000"; // five zero bits
+    assert_eq!(bits.len(), 752);
+    let expected: Vec<u8> = (0..94)
         .map(|byte| u8::from_str_radix(&bits[byte * 8..byte * 8 + 8], 2).unwrap())
         .collect();
     assert_eq!(saved(&record).unwrap().to_vec(), expected);
@@ -519,7 +524,7 @@ fn lists_of_calls_and_the_plain_machine() {
             match numbers.below(8) {
                 0 => {
                     // a return trip of the record
-                    let mut bytes = [0; 91];
+                    let mut bytes = [0; 94];
                     save(&lab.record, &mut bytes).unwrap();
                     lab.record = read(&bytes).record;
                 }

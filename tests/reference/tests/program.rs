@@ -1,5 +1,7 @@
-//! The program `reference` and its subcommands.
+//! The program `reference` and its subcommands, and the expected files that it writes for the programs
+//! check_commands and check_examples.
 
+use reference::record::{edition_1, read};
 use reference::simlog::simlog;
 use std::io::Write;
 use std::path::PathBuf;
@@ -53,6 +55,8 @@ fn asm_list_and_run() {
                   out $zero, $zero, $imm1, $imm2, 14, 1\n\
                   out $zero, $zero, $imm1, $imm2, 21, 7\n\
                   out $zero, $zero, $imm1, $imm2, 22, 1\n\
+                  in $t0, $zero, $imm1, $zero, 17, 0\n\
+                  bne $zero, $t0, $zero, $imm1, 5, 0\n\
                   halt $zero, $zero, $zero, $zero, 0, -1\n\
                   .word 2 0x1f\n";
     std::fs::write(path("p.asm"), source).unwrap();
@@ -64,7 +68,8 @@ fn asm_list_and_run() {
     let image = std::fs::read_to_string(path("i")).unwrap();
     assert_eq!(
         image,
-        "103010002000\n14001200F001\n14001200E001\n140012015007\n140012016001\n150000000FFF\n"
+        "103010002000\n14001200F001\n14001200E001\n140012015007\n140012016001\n137010011000\n\
+         0A0701005000\n150000000FFF\n"
     );
     assert_eq!(
         std::fs::read_to_string(path("d")).unwrap(),
@@ -97,7 +102,8 @@ fn asm_list_and_run() {
         "",
     );
     assert_eq!(code, 0);
-    assert!(log.ends_with("\nE 1 6 6\n"));
+    // The disk is free after cycle 2 + 1024; the in of cycle 1027 sees it, the halt is cycle 1029.
+    assert!(log.ends_with("\nE 1 1030 1006\n"));
     assert!(log.contains("H 2 WRITE diskcmd 00000001\n"));
     assert!(log.contains("T 001 14001200F001 00000000 0000000F 00000001 0000001F "));
     let data = std::fs::read_to_string(path("dmemout.txt")).unwrap();
@@ -122,6 +128,185 @@ fn asm_list_and_run() {
     assert_eq!(std::fs::read(path("i")).unwrap().len(), 4096 * 13);
     assert_eq!(std::fs::read(path("d")).unwrap().len(), 4096 * 9);
     assert_eq!(program(&["run", &path("i"), "--budget", "2"], "").0, log);
+}
+
+#[test]
+fn run_from_a_saved_record() {
+    let place = directory("run_from_a_saved_record");
+    let path = |name: &str| place.join(name).to_str().unwrap().to_string();
+    // The disk reads sector 0 to address 0; the program counts in $v0 and stores it at 5, word 5.
+    let source = "out $zero, $zero, $imm1, $imm2, 14, 1\n\
+                  add $v0, $v0, $imm1, $zero, 1, 0\n\
+                  sw $v0, $zero, $imm1, $zero, 5, 0\n\
+                  beq $zero, $zero, $zero, $imm1, 1, 0\n";
+    std::fs::write(path("p.asm"), source).unwrap();
+    program(&["asm", &path("p.asm"), &path("i"), &path("d")], "");
+    std::fs::write(path("disk"), "00000007\n".repeat(128)).unwrap();
+    let run = |data: &str, disk: &str, more: &[&str]| {
+        let (image, data, disk, here) = (path("i"), path(data), path(disk), path(""));
+        let mut arguments = vec!["run", &image, "--data", &data, "--disk", &disk];
+        arguments.extend_from_slice(&["--memories", &here]);
+        arguments.extend_from_slice(more);
+        program(&arguments, "")
+    };
+    let (whole, code) = run("d", "disk", &["--budget", "100"]);
+    assert_eq!(code, 0);
+    let end = std::fs::read(path("record.bin")).unwrap();
+    let data = std::fs::read(path("dmemout.txt")).unwrap();
+    // cut after 50 cycles: words 0 to 5 have come
+    let (first, _) = run("d", "disk", &["--budget", "50"]);
+    std::fs::copy(path("record.bin"), path("cut.bin")).unwrap();
+    assert_eq!(std::fs::read(path("cut.bin")).unwrap().len(), 94);
+    let cut = path("cut.bin");
+    let (second, _) = run(
+        "dmemout.txt",
+        "diskout.txt",
+        &["--record", &cut, "--budget", "50"],
+    );
+    assert_eq!(first.replace("E 0 50 49\n", "") + &second, whole);
+    assert_eq!(std::fs::read(path("record.bin")).unwrap(), end);
+    assert_eq!(std::fs::read(path("dmemout.txt")).unwrap(), data);
+    // a record that is refused
+    std::fs::write(path("cut.bin"), [2; 91]).unwrap();
+    assert_eq!(
+        run("d", "disk", &["--record", &cut]),
+        ("N 14 0\n".to_string(), 1)
+    );
+}
+
+/// The path of a file of a crate.
+fn of_crate(name: &str) -> String {
+    format!("{}/../../crates/{name}", env!("CARGO_MANIFEST_DIR"))
+}
+
+#[test]
+fn check_commands_has_the_files() {
+    let place = directory("check_commands_has_the_files");
+    let path = |name: &str| place.join(name).to_str().unwrap().to_string();
+    let file = |name: &str| of_crate(&format!("check_commands/data/{name}"));
+    let bytes = |path: &str| std::fs::read(path).unwrap();
+    let (image, data, disk, irq2, here) = (
+        file("devices.imem"),
+        file("devices.dmem"),
+        file("devices.disk"),
+        file("devices.irq2"),
+        path(""),
+    );
+    let run = |more: &[&str]| {
+        let mut arguments = vec!["run", &image, "--data", &data, "--disk", &disk];
+        arguments.extend_from_slice(&["--irq2", &irq2, "--memories", &here]);
+        arguments.extend_from_slice(more);
+        assert_eq!(program(&arguments, "").1, 0);
+    };
+    let same = |ours: &str, theirs: &str| {
+        assert!(bytes(&path(ours)) == bytes(&file(theirs)), "{theirs}");
+    };
+    program(
+        &[
+            "asm",
+            &file("devices.asm"),
+            &path("i"),
+            &path("d"),
+            "--short",
+        ],
+        "",
+    );
+    same("i", "devices.imem");
+    same("d", "devices.dmem");
+    program(&["asm", &file("mulmat.asm"), &path("i"), &path("d")], "");
+    same("i", "mulmat.imem");
+    same("d", "mulmat.dmem");
+
+    let whole = [
+        "dmemout.txt",
+        "regout.txt",
+        "trace.txt",
+        "hwregtrace.txt",
+        "cycles.txt",
+        "leds.txt",
+        "display7seg.txt",
+        "diskout.txt",
+        "monitor.txt",
+        "monitor.yuv",
+        "log.txt",
+        "record.bin",
+    ];
+    run(&[]);
+    for name in whole {
+        same(name, &format!("expected/{name}"));
+    }
+    let picture = [b"P5\n256 256\n255\n".to_vec(), bytes(&path("monitor.yuv"))].concat();
+    assert!(bytes(&file("expected/frame.pgm")) == picture);
+
+    // in mid-sector; last term's record of there is busy
+    run(&["--budget", "41"]);
+    same("record.bin", "expected/record_41.bin");
+    same("dmemout.txt", "expected/dmemout_41.txt");
+    let mut record = read(&bytes(&path("record.bin"))).record;
+    assert_eq!(
+        (record.left, record.sector, record.buffer),
+        (1000, 3, 0x200)
+    );
+    // last term the sector came at once, so that the lw met its word 1 and $t0 has it
+    record.r[7 - 3] = 0x84068904;
+    assert_eq!(bytes(&file("last_term_busy.bin")), edition_1(&record));
+
+    // last term's record of a free disk, and the run that goes on from it
+    run(&["--budget", "10"]);
+    let record = read(&bytes(&path("record.bin"))).record;
+    assert_eq!(bytes(&file("last_term.bin")), edition_1(&record));
+    same("log.txt", "last_term.log");
+    assert!(bytes(&file("last_term.dmem")) == bytes(&data));
+    assert!(bytes(&file("last_term.disk")) == bytes(&disk));
+    assert!(bytes(&file("last_term.frame")).is_empty());
+    run(&["--record", &file("last_term.bin")]);
+    for name in whole.iter().filter(|name| name.ends_with("out.txt")) {
+        same(name, &format!("expected/{name}"));
+    }
+    same("monitor.txt", "expected/monitor.txt");
+    same("record.bin", "expected/record.bin");
+    let log = [bytes(&file("last_term.log")), bytes(&path("log.txt"))].concat();
+    assert!(log == bytes(&file("expected/log.txt")));
+
+    // the records that are refused
+    for (name, number) in [
+        ("short.bin", 1),
+        ("long.bin", 1),
+        ("length_92.bin", 1),
+        ("edition.bin", 14),
+        ("edition_1_94.bin", 14),
+        ("edition_2_91.bin", 14),
+        ("unsound.bin", 13),
+        ("last_bits.bin", 13),
+        ("last_term_busy.bin", 20),
+    ] {
+        let refusal = read(&bytes(&file(name))).refusal;
+        assert_eq!(refusal.map(|no| no.number), Some(number), "{name}");
+    }
+}
+
+#[test]
+fn check_examples_has_the_output() {
+    let mut expected = String::new();
+    let folders = std::fs::read_to_string(of_crate("check_examples/args")).unwrap();
+    for folder in folders.lines() {
+        expected += &format!("= {folder}\n");
+        let file = |name: &str| of_crate(&format!("check_examples/data/{folder}/{name}"));
+        let mut arguments = vec!["run".to_string(), file("imemin.txt")];
+        for (option, name) in [
+            ("--data", "dmemin.txt"),
+            ("--disk", "diskin.txt"),
+            ("--irq2", "irq2in.txt"),
+        ] {
+            if std::path::Path::new(&file(name)).exists() {
+                arguments.extend([option.to_string(), file(name)]);
+            }
+        }
+        let arguments: Vec<&str> = arguments.iter().map(|word| word.as_str()).collect();
+        expected += &program(&arguments, "").0;
+    }
+    let output = std::fs::read_to_string(of_crate("check_examples/stdout")).unwrap();
+    assert!(output == expected);
 }
 
 #[test]

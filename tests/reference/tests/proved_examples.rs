@@ -1,4 +1,5 @@
-//! Document 01, "Proved examples" and "Mistakes to exclude", each by its own words.
+//! Document 01, "Proved examples" and "Mistakes to exclude", each by its own words; the saved record
+//! by document 02's.
 
 mod common;
 use common::*;
@@ -128,6 +129,9 @@ fn diskbuffer_3968_and_3969() {
         (lab.record.status, lab.record.left, lab.record.pc),
         (0, 1024, 1)
     );
+    lab.run(1023);
+    assert_eq!((lab.data[3968], lab.data[4095]), (11, 0));
+    lab.cycle();
     assert_eq!((lab.data[3968], lab.data[4095]), (11, 22));
 
     let mut lab = Lab::of("out $zero, $imm1, $zero, $imm2, 14, 1");
@@ -185,21 +189,21 @@ fn simlog_example() {
 
 #[test]
 fn the_run_above_saves_as() {
-    // "the run above saves as 01 20 01 00 00 00 00 02 and on": leds 5 and clks 2 stand in the rest.
-    // By hand: bits before clks 8+3+1+12+40+11+13*32+6+12+12 = 521, so clks ends at bit 552 and
-    // leds at bit 584 (bits from 0). clks = 2 sets bit 551, the last of byte 68; leds = 5 sets bits
-    // 582 and 584, in byte 72 the second last and in byte 73 the first.
+    // "the run above saves as 01 20 01 00 00 00 00 02 and on"; "The proved saved example now begins
+    // 02, its next seven bytes as before": leds 5 and clks 2 stand in the rest. By hand: bits before
+    // clks 8+3+1+12+40+11+7+12+13*32+6+12+12 = 540, so clks ends before bit 572 and leds before bit
+    // 604 (bits from 0). clks = 2 sets bit 570, in byte 71 the third; leds = 5 sets bits 601 and 603,
+    // in byte 75 the second and the fourth.
     let mut lab = Lab::empty();
     lab.image[0] = 0x140102009005;
     lab.image[1] = 0x150000000000;
     lab.run(100);
-    let mut bytes = [0xEE; 91];
+    let mut bytes = [0xEE; 94];
     save(&lab.record, &mut bytes).unwrap();
-    let mut expected = [0u8; 91];
-    expected[..8].copy_from_slice(&[0x01, 0x20, 0x01, 0, 0, 0, 0, 0x02]);
-    expected[68] = 0x01;
-    expected[72] = 0x02;
-    expected[73] = 0x80;
+    let mut expected = [0u8; 94];
+    expected[..8].copy_from_slice(&[0x02, 0x20, 0x01, 0, 0, 0, 0, 0x02]);
+    expected[71] = 0x20;
+    expected[75] = 0x50;
     assert_eq!(bytes, expected);
     assert_eq!(read(&bytes).record, lab.record);
 }

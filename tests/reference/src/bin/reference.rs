@@ -2,20 +2,21 @@
 //! `N number line`), or with 2 where it could not start (usage, files).
 //!
 //! reference simlog < INSTRUCTIONS
-//! reference run IMAGE [--data F] [--disk F] [--irq2 F] [--budget N] [--memories DIR]
+//! reference run IMAGE [--data F] [--disk F] [--irq2 F] [--record F] [--budget N] [--memories DIR]
 //! reference asm SOURCE IMAGE DATA [--short]
 //! reference list IMAGE
 //!
-//! `run` prints the log and the E line (budget 100,000 where none is given); with `--memories` it
-//! then writes into DIR the ten files of the course paper's simulator (dmemout.txt regout.txt
-//! trace.txt hwregtrace.txt cycles.txt leds.txt display7seg.txt diskout.txt monitor.txt
-//! monitor.yuv), the saved record as record.bin and the log as log.txt. `asm --short` leaves out the
-//! zero lines at the end of its two files. `list` lists as many words as the file has lines.
+//! `run` prints the log and the E line (budget 100,000 where none is given); it starts from the
+//! fresh record, or from the saved one that `--record` names. With `--memories` it then writes into
+//! DIR the ten files of the course paper's simulator (dmemout.txt regout.txt trace.txt
+//! hwregtrace.txt cycles.txt leds.txt display7seg.txt diskout.txt monitor.txt monitor.yuv), the
+//! saved record as record.bin and the log as log.txt. `asm --short` leaves out the zero lines at the
+//! end of its two files. `list` lists as many words as the file has lines.
 
 use reference::assembler::assemble;
 use reference::files::*;
 use reference::lister::list;
-use reference::record::{save, Record};
+use reference::record::{read, save, Record};
 use reference::run::{run, LOG_FULL};
 use reference::simlog::{line_e, line_n, simlog, SIMLOG_BUDGET};
 use reference::text::lines;
@@ -37,7 +38,8 @@ impl From<Refusal> for End {
 }
 
 const USAGE: &str = "usage: reference simlog < INSTRUCTIONS
-       reference run IMAGE [--data F] [--disk F] [--irq2 F] [--budget N] [--memories DIR]
+       reference run IMAGE [--data F] [--disk F] [--irq2 F] [--record F] [--budget N]
+                     [--memories DIR]
        reference asm SOURCE IMAGE DATA [--short]
        reference list IMAGE";
 
@@ -103,6 +105,7 @@ fn command_run(arguments: &[String]) -> Result<(), End> {
     let mut disk = vec![0; DISK_WORDS];
     let mut frame = vec![0; FRAME_BYTES];
     let mut irq2 = Vec::new();
+    let mut record = Record::fresh();
     let mut budget = SIMLOG_BUDGET;
     let mut memories = None;
 
@@ -119,6 +122,11 @@ fn command_run(arguments: &[String]) -> Result<(), End> {
                 irq2 = vec![0; lines(&text).len()];
                 read_irq2(&text, &mut irq2)?;
             }
+            "--record" => {
+                let answer = read(&load(value)?);
+                answer.refusal.map_or(Ok(()), Err)?;
+                record = answer.record;
+            }
             "--budget" => budget = value.parse().map_err(|_| usage())?,
             "--memories" => memories = Some(value),
             _ => return Err(usage()),
@@ -126,7 +134,6 @@ fn command_run(arguments: &[String]) -> Result<(), End> {
     }
 
     // Runs with a room of 1 MiB for the log, as many as are needed.
-    let mut record = Record::fresh();
     let mut log = vec![0; 1 << 20];
     let mut whole_log = Vec::new();
     loop {

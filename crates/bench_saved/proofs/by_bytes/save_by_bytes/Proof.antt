@@ -9,16 +9,18 @@ use borrow.Author.Tests.{not-true, not-false, eq-eqb, ne-eqb}
 use borrow.Author.Needs.{needs}
 use Rattle.isa.specs.Registers.{ioBits}
 use Rattle.bitpack.specs.Packed.{fit}
-use Rattle.saved.specs.Layout.{widths, fieldsOf, savedBytes}
+use Rattle.bitpack.specs.Format.{bytesOfRecord}
+use Rattle.saved.specs.Layout.{widths, fieldsOf}
 use Rattle.saved.specs.Sound.{isSound}
-use Rattle.saved.proofs.SoundTest.{unfit-unsound, packs}
+use Rattle.saved.proofs.SoundTest.{unfit-unsound}
+use Rattle.saved.proofs.TripLaws.{packs}
 use Rattle.saved.proofs.AnswerLaws.{save-wrong-length, save-unsound, save-done}
 use Rattle.bench_saved.proofs.by_bytes.save_by_bytes.Statement.{statement}
 use Rattle.bench_saved.proofs.by_bytes.save_by_bytes.Tie as tie
 
 -- What the tests passed say.
-length-is : (c : tie.Else1) → eqb (length (c .before .before .args .bytes .now)) 91 ≡ true
-length-is c = eq-eqb _ 91 (c .if1 .left)
+length-is : (c : tie.Else1) → eqb (length (c .before .before .args .bytes .now)) 94 ≡ true
+length-is c = eq-eqb _ 94 (c .if1 .left)
 
 fit-is : (c : tie.After-all-fit-ending-early) → fit widths (fieldsOf (c .before .before .before .before .before .before .args .r)) ≡ c .all-fit-ending-early .result
 unfolding widths ioBits
@@ -28,7 +30,7 @@ sound-is : (c : tie.Else3) → isSound (c .before .before .before .before .befor
 sound-is c = sym (c .before .is-possible .ensures) ∙ not-false (c .before .is-possible .result) (c .if3 .left)
 
 returns : tie.Need-returns
-returns c = let a = c .before .before .args in save-wrong-length (a .r) (a .bytes .now) (ne-eqb (length (a .bytes .now)) 91 (c .if1 .taken))
+returns c = let a = c .before .before .args in save-wrong-length (a .r) (a .bytes .now) (ne-eqb (length (a .bytes .now)) 94 (c .if1 .taken))
 
 fields-requires : tie.Need-fields-requires
 fields-requires c κs = search needs
@@ -71,7 +73,7 @@ same-length : tie.Need-same-length
 same-length c = search needs
 
 returns-4 : tie.Need-returns-4
-unfolding savedBytes widths ioBits
+unfolding bytesOfRecord widths ioBits
 returns-4 c =
     let a = c .before .before .before .before .before .before .before .before .before .before .before .before .before .before .before .args in
     let e = c .before .before .before .before .before .before .before .before .before .before .before .before .before in

@@ -17,7 +17,7 @@ array-read-result c = search needs
 
 returns : tie.Need-returns
 unfolding sentence
-returns c = rw (numbers-rule (λ (k : ℕ). length (sentence k)) _ 20 refl (c .args .n) (c .pre)) (refl, sentence-most (c .args .n) (c .pre))
+returns c = rw (numbers-rule (λ (k : ℕ). length (sentence k)) _ 21 refl (c .args .n) (c .pre)) (refl, sentence-most (c .args .n) (c .pre))
 
 pub sentence-length-spec : {M : Type 1} → statement M
 sentence-length-spec = tie.close (tie.spec mul-result array-read-result returns)

@@ -16,7 +16,7 @@ array-copy-out-result c = search needs
 
 returns : tie.Need-returns
 unfolding sentence same
-returns c = rw (rows-length _ _ refl (c .before .args .n) (c .before .pre), rows-rule sentence 20 _ _ refl (c .before .args .n) (c .before .pre)) (refl, refl)
+returns c = rw (rows-length _ _ refl (c .before .args .n) (c .before .pre), rows-rule sentence 21 _ _ refl (c .before .args .n) (c .before .pre)) (refl, refl)
 
 pub sentence-row-spec : {M : Type 1} → statement M
 sentence-row-spec = tie.close (tie.spec mul-result array-copy-out-result returns)

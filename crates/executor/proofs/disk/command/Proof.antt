@@ -1,79 +1,100 @@
--- `executor::disk::command` meets its contract.
 use mathlib.Core.Path.{refl}
-use borrow.Author.Tests.{eq-eqb, ne-eqb}
+use Rattle.devices.specs.declared.Taken.the-variants.{Ignored, Cleared, Accepted, NoRoom}
+use Rattle.executor.proofs.CommandLaws.{commanded-is}
 use borrow.Author.Needs.{needs}
-use Rattle.machine.specs.Execution.{commanded}
-use Rattle.executor.proofs.CopyLaws.{no-command}
 use Rattle.executor.proofs.disk.command.Statement.{statement}
 use Rattle.executor.proofs.disk.command.Tie as tie
+use Rattle.executor.proofs.disk.command.Reads as reads
+use Rattle.executor.proofs.disk.command.Lts as lts
+use Rattle.devices.proofs.command.take_command.Reads as take-command-reads
+use Rattle.machine.proofs.scalars.with_drive.Reads as with-drive-reads
+use Rattle.executor.proofs.progress.end.Reads as end-reads
+use Rattle.executor.proofs.progress.onward.Reads as onward-reads
 
-element-copy-out-if1 : tie.Need-element-copy-out-if1
-element-copy-out-if1 c = search needs
+-- src/disk.rt:21:11
+take-command-requires : tie.Need-take-command-requires
+take-command-requires c κs = search needs
 
+-- src/disk.rt:22:27
+enum-told : tie.Need-enum-told
+enum-told c = search needs
+
+-- src/disk.rt:22:27
 onward-requires : tie.Need-onward-requires
 onward-requires c κs = search needs
 
-returns : tie.Need-returns
-unfolding commanded
-returns c = λ regs frame. rw (ne-eqb _ _ (c .before .if1 .taken), c .onward .ensures) refl
+-- src/disk.rt:23:27
+enum-told-2 : tie.Need-enum-told-2
+enum-told-2 c = search needs
 
-accept-requires : tie.Need-accept-requires
-accept-requires c κs = search needs
-
-accept-requires-2 : tie.Need-accept-requires-2
-accept-requires-2 c κs = search needs
-
-element-write-io : tie.Need-element-write-io
-element-write-io c = search needs
-
+-- src/disk.rt:23:27
 onward-requires-2 : tie.Need-onward-requires-2
 onward-requires-2 c κs = search needs
 
-same-length : tie.Need-same-length
-same-length c = search needs
+-- src/disk.rt:24:25
+enum-known-d : tie.Need-enum-known-d
+enum-known-d c = search needs
 
-same-length-2 : tie.Need-same-length-2
-same-length-2 c = search needs
+-- src/disk.rt:24:38
+with-drive-requires : tie.Need-with-drive-requires
+with-drive-requires c κs = search needs
 
+-- src/disk.rt:24:31
+onward-requires-3 : tie.Need-onward-requires-3
+onward-requires-3 c κs = search needs
+
+-- src/disk.rt:25:26
+enum-told-3 : tie.Need-enum-told-3
+enum-told-3 c = search needs
+
+-- src/disk.rt:25:26
+end-requires : tie.Need-end-requires
+end-requires c κs = search needs
+
+-- src/disk.rt:17:1
+returns : tie.Need-returns
+returns c = λ regs memory disk frame.
+    let a = c .before .before .before .before .before .args in
+    let w = c .before .before .before .take-command .ensures in
+    commanded-is (a .low) (a .c) _ _ Ignored regs (a .io .now) _ memory disk frame (w .0) (w .1) (c .before .enum-told .given .1) (rw (c .onward .ensures) refl)
+
+-- src/disk.rt:17:1
 returns-2 : tie.Need-returns-2
-unfolding commanded
-returns-2 c = λ regs frame.
-    rw (eq-eqb _ _ (c .before .before .before .before .before .before .before .before .before .if1 .left), c .before .before .before .before .before .before .before .before .match .keys1)
-    (c .before .before .before .before .accept .ensures regs frame)
+returns-2 c = λ regs memory disk frame.
+    let a = c .before .before .before .before .before .args in
+    let w = c .before .before .before .take-command .ensures in
+    commanded-is (a .low) (a .c) _ _ Cleared regs (a .io .now) _ memory disk frame (w .0) (w .1) (c .before .enum-told2 .given .1) (rw (c .onward2 .ensures) refl)
 
-same-length-3 : tie.Need-same-length-3
-same-length-3 c = search needs
-
-same-length-4 : tie.Need-same-length-4
-same-length-4 c = search needs
-
+-- src/disk.rt:17:1
 returns-3 : tie.Need-returns-3
-unfolding commanded
-returns-3 c = λ regs frame.
-    rw (eq-eqb _ _ (c .before .before .before .before .before .before .before .before .before .if1 .left), c .before .before .before .before .before .before .before .before .match .keys2)
-    (c .before .before .before .before .accept2 .ensures regs frame)
+returns-3 c = λ regs memory disk frame.
+    let a = c .before .before .before .before .before .before .before .args in
+    let w = c .before .before .before .before .before .take-command .ensures in
+    let d = c .before .before .before .d .given in
+    commanded-is (a .low) (a .c) _ _ (Accepted (d .0 .0)) regs (a .io .now) _ memory disk frame (w .0) (w .1) (d .1) (rw (c .onward3 .ensures, c .before .with-drive .ensures) refl)
 
+-- src/disk.rt:17:1
 returns-4 : tie.Need-returns-4
-unfolding commanded
-returns-4 c = λ regs frame.
-    let rest = c .before .match .rest in
-    rw (eq-eqb _ _ (c .before .before .if1 .left), no-command (c .before .before .before .before .before .before .args .low) (rest .0 .1) (rest .1), c .onward2 .ensures) refl
+returns-4 c = λ regs memory disk frame.
+    let a = c .before .before .before .before .before .args in
+    let w = c .before .before .before .take-command .ensures in
+    commanded-is (a .low) (a .c) _ _ NoRoom regs (a .io .now) _ memory disk frame (w .0) (w .1) (c .before .enum-told3 .given .1) (rw (c .end .ensures) refl)
 
 pub command-spec : {M : Type 1} → statement M
 command-spec =
     tie.close
     (tie.spec
-    element-copy-out-if1
+    take-command-requires
+    enum-told
     onward-requires
-    returns
-    accept-requires
-    accept-requires-2
-    element-write-io
+    enum-told-2
     onward-requires-2
-    same-length
-    same-length-2
+    enum-known-d
+    with-drive-requires
+    onward-requires-3
+    enum-told-3
+    end-requires
+    returns
     returns-2
-    same-length-3
-    same-length-4
     returns-3
     returns-4)

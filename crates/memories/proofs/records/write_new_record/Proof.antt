@@ -29,7 +29,7 @@ write-new-bytes-requires : tie.Need-write-new-bytes-requires
 write-new-bytes-requires c κs = search needs
 
 returns-2 : tie.Need-returns-2
-returns-2 c = all-written (saved-sound _ (replicate 91 0) (c .before .before .before .before .outcome .ensures ∙ c .before .before .before .before .before .before .save .ensures .0) (c .before .before .if1 .left)) (c .write-new-bytes .ensures)
+returns-2 c = all-written (saved-sound _ (replicate 94 0) (c .before .before .before .before .outcome .ensures ∙ c .before .before .before .before .before .before .save .ensures .0) (c .before .before .if1 .left)) (c .write-new-bytes .ensures)
 
 pub write-new-record-spec : {M : Type 1} → statement M
 write-new-record-spec =

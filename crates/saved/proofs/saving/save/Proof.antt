@@ -6,22 +6,23 @@ use lib.ListN.{length}
 use borrow.Author.Tests.{not-true, not-false, eq-eqb, ne-eqb}
 use borrow.Author.Needs.{needs}
 use Rattle.isa.specs.Registers.{ioBits}
-use Rattle.saved.specs.Layout.{widths, savedBytes}
+use Rattle.bitpack.specs.Format.{bytesOfRecord}
+use Rattle.saved.specs.Layout.{widths}
 use Rattle.saved.specs.Sound.{isSound}
-use Rattle.saved.proofs.SoundTest.{packs}
+use Rattle.saved.proofs.TripLaws.{packs}
 use Rattle.saved.proofs.AnswerLaws.{save-wrong-length, save-unsound, save-done}
 use Rattle.saved.proofs.saving.save.Statement.{statement}
 use Rattle.saved.proofs.saving.save.Tie as tie
 
 -- What the tests passed say.
-length-is : (c : tie.Else1) → eqb (length (c .before .before .args .bytes .now)) 91 ≡ true
-length-is c = eq-eqb _ 91 (c .if1 .left)
+length-is : (c : tie.Else1) → eqb (length (c .before .before .args .bytes .now)) 94 ≡ true
+length-is c = eq-eqb _ 94 (c .if1 .left)
 
 sound-is : (c : tie.Else2) → isSound (c .before .before .before .before .before .args .r) ≡ true
 sound-is c = sym (c .before .is-sound-with .ensures) ∙ not-false (c .before .is-sound-with .result) (c .if2 .left)
 
 returns : tie.Need-returns
-returns c = let a = c .before .before .args in save-wrong-length (a .r) (a .bytes .now) (ne-eqb (length (a .bytes .now)) 91 (c .if1 .taken))
+returns c = let a = c .before .before .args in save-wrong-length (a .r) (a .bytes .now) (ne-eqb (length (a .bytes .now)) 94 (c .if1 .taken))
 
 fields-requires : tie.Need-fields-requires
 fields-requires c κs = search needs
@@ -52,7 +53,7 @@ same-length : tie.Need-same-length
 same-length c = search needs
 
 returns-3 : tie.Need-returns-3
-unfolding savedBytes widths ioBits
+unfolding bytesOfRecord widths ioBits
 returns-3 c =
     let s = c .before .before .before .before .before .before in
     let e = s .before .before .before in

@@ -2,7 +2,7 @@
 use Prim.Native.Nat.{ℕ, _^_, _<_}
 use mathlib.Core.Path.{_≡_, sym, ap, _∙_}
 use mathlib.Core.Bool.{_&&_}
-use mathlib.Core.List.{List, map}
+use mathlib.Core.List.{List, [], _∷_, _++_}
 use native.Mathlib.Omega.{arith}
 use lib.ListN.{length, getD, take, drop}
 use lib.Seq.{length-take-le}
@@ -12,10 +12,9 @@ use borrow.Author.Tests.{not-true, not-false}
 use borrow.Author.Needs.{needs}
 use Rattle.isa.specs.Registers.{ioBits}
 use Rattle.bitpack.specs.Packed.{fit}
-use Rattle.machine.specs.Soundness.{fieldBits}
-use Rattle.saved.specs.Layout.{ioNumbers, widths, fieldsOf}
+use Rattle.saved.specs.Layout.{widths, fieldsOf}
 use Rattle.saved.proofs.PartLaws.{rest-is}
-use Rattle.saved.proofs.SoundTest.{scalarWidths, scalarsOf, others-fit, unfit-unsound}
+use Rattle.saved.proofs.SoundTest.{scalarWidths, scalarsOf, ioWidths, others-fit, unfit-unsound}
 use Rattle.saved.proofs.sound.is_sound_with.Statement.{statement}
 use Rattle.saved.proofs.sound.is_sound_with.Tie as tie
 
@@ -30,24 +29,24 @@ small : (c : tie.Start) (k : ℕ) → getD (c .args .r .regs) k 0 < 2 ^ 32
 small c k = let e : Fits w32 (getD (c .args .r .regs) k 0) = search needs in e .fits
 
 -- The fields fit where two parts do: ..
-parts-are : (c : tie.Start) → fit widths (fieldsOf (c .args .r)) ≡ (fit scalarWidths (scalarsOf (c .args .r .core)) && fit (map fieldBits ioNumbers) (c .args .r .io))
+parts-are : (c : tie.Start) → fit widths (fieldsOf (c .args .r)) ≡ (fit scalarWidths (scalarsOf (c .args .r .core)) && fit (ioWidths 5) (c .args .r .io ++ (0 ∷ [])))
 parts-are c = others-fit (c .args .r) (regs-13 c) (small c)
 
 -- .. the scalars, of which the first test is, ..
 scalars-are : (c : tie.After-all-fit) → fit scalarWidths (scalarsOf (c .before .before .before .args .r .core)) ≡ c .all-fit .result
 unfolding fieldsOf
-scalars-are c = sym (c .all-fit .ensures ∙ ap (λ (f : List ℕ). fit scalarWidths (take 6 f)) (c .before .before .before .pre))
+scalars-are c = sym (c .all-fit .ensures ∙ ap (λ (f : List ℕ). fit scalarWidths (take 8 f)) (c .before .before .before .pre))
 
 -- .. and the I/O registers, of which the second is, ..
-io-is : (c : tie.After-all-fit2) → fit (map fieldBits ioNumbers) (c .before .before .before .before .before .before .before .before .args .r .io) ≡ c .all-fit2 .result
+io-is : (c : tie.After-all-fit2) → fit (ioWidths 5) (c .before .before .before .before .before .before .before .before .args .r .io ++ (0 ∷ [])) ≡ c .all-fit2 .result
 unfolding fieldsOf ioBits
 io-is c =
     let s = c .before .before .before .before .before .before .before .before in
     let r = s .args .r in
     sym
     (c .all-fit2 .ensures
-    ∙ ap (λ (f : List ℕ). fit (map fieldBits ioNumbers) (take 23 (drop 19 f))) (s .pre)
-    ∙ ap (λ (f : List ℕ). fit (map fieldBits ioNumbers) f) (rest-is (r .regs) (r .io) (regs-13 s) (io-23 s)))
+    ∙ ap (λ (f : List ℕ). fit (ioWidths 5) (take 24 (drop 21 f))) (s .pre)
+    ∙ ap (λ (f : List ℕ). fit (ioWidths 5) f) (rest-is (r .regs) (r .io) (regs-13 s) (io-23 s)))
 
 -- .. so both tests together.
 both-are : (c : tie.After-all-fit2) → fit widths (fieldsOf (c .before .before .before .before .before .before .before .before .args .r)) ≡ (c .before .before .before .before .before .all-fit .result && c .all-fit2 .result)
@@ -65,8 +64,8 @@ array-share-prefix-f c = search needs
 slice-aggregate-all-fit-2 : tie.Need-slice-aggregate-all-fit-2
 slice-aggregate-all-fit-2 c =
     let f = c .before .before .args .t2 in
-    let e : length f ≡ 42 = search needs in
-    sym (length-take-le 6 f (omega arith))
+    let e : length f ≡ 45 = search needs in
+    sym (length-take-le 8 f (omega arith))
 
 all-fit-requires : tie.Need-all-fit-requires
 all-fit-requires c κs = search needs

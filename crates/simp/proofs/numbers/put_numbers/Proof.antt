@@ -15,7 +15,7 @@ slice-relend-prefix-copy-long-words : tie.Need-slice-relend-prefix-copy-long-wor
 slice-relend-prefix-copy-long-words c = search needs
 
 slice-aggregate-copy-long-words : tie.Need-slice-aggregate-copy-long-words
-slice-aggregate-copy-long-words c = sym (length-take-le 36 (c .before .before .before .args .numbers .now) (omega arith))
+slice-aggregate-copy-long-words c = sym (length-take-le 38 (c .before .before .before .args .numbers .now) (omega arith))
 
 sub-copy-long-words : tie.Need-sub-copy-long-words
 sub-copy-long-words c = search needs
@@ -29,8 +29,8 @@ part-copy-long-words-end c = search needs
 copy-long-words-requires : tie.Need-copy-long-words-requires
 copy-long-words-requires c κs =
     let f = c .before .before .before .fields .result in
-    let whole : length f ≡ 42 = search needs in
-    length-take-le 36 (c .before .before .before .before .before .args .numbers .now) (omega arith) ∙ sym (length-take-le 36 (drop 1 f) (simp length-drop (omega arith)))
+    let whole : length f ≡ 45 = search needs in
+    length-take-le 38 (c .before .before .before .before .before .args .numbers .now) (omega arith) ∙ sym (length-take-le 38 (drop 1 f) (simp length-drop (omega arith)))
 
 sub-copy-long-words-2 : tie.Need-sub-copy-long-words-2
 sub-copy-long-words-2 c = search needs
@@ -62,10 +62,11 @@ returns c =
     let f = c .before .before .before .before .before .before .before .before .before .before .before .before .fields in
     let x = c .before .before .before .before .before .before .before .before .copy-long-words in
     let y = c .before .before .copy-long-words2 in
-    let whole : length (f .result) ≡ 42 = search needs in
+    let whole : length (f .result) ≡ 45 = search needs in
     let thirteen : length (a .r .regs) ≡ 13 = search needs in
-    let size : length (x .last .0) ≡ 36 = rw (x .ensures) (length-take-le 36 (drop 1 (f .result)) (simp length-drop (omega arith))) in
-    put-numbers (x .last .0) (drop 36 (a .numbers .now)) (y .last .0) size ∙ rw (x .ensures, y .ensures, f .ensures) (fields-numbers (a .r) thirteen)
+    let all : length (a .r .io) ≡ 23 = search needs in
+    let size : length (x .last .0) ≡ 38 = rw (x .ensures) (length-take-le 38 (drop 1 (f .result)) (simp length-drop (omega arith))) in
+    put-numbers (x .last .0) (drop 38 (a .numbers .now)) (y .last .0) size ∙ rw (x .ensures, y .ensures, f .ensures) (fields-numbers (a .r) thirteen all)
 
 pub put-numbers-spec : {M : Type 1} → statement M
 put-numbers-spec =

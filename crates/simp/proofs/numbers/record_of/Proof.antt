@@ -28,10 +28,10 @@ part-f-end : tie.Need-part-f-end
 part-f-end c = search needs
 
 slice-aggregate-copy-long-words : tie.Need-slice-aggregate-copy-long-words
-slice-aggregate-copy-long-words c = sym (length-take-le 36 (c .before .before .before .args .numbers .now) (omega arith))
+slice-aggregate-copy-long-words c = sym (length-take-le 38 (c .before .before .before .args .numbers .now) (omega arith))
 
 copy-long-words-requires : tie.Need-copy-long-words-requires
-copy-long-words-requires c κs = sym (length-take-le 36 (c .before .before .before .args .numbers .now) (omega arith))
+copy-long-words-requires c κs = sym (length-take-le 38 (c .before .before .before .args .numbers .now) (omega arith))
 
 sub-copy-long-words-2 : tie.Need-sub-copy-long-words-2
 sub-copy-long-words-2 c = search needs
@@ -42,8 +42,8 @@ part-f-start-2 c = search needs
 part-f-end-2 : tie.Need-part-f-end-2
 part-f-end-2 c =
     let x = c .before .copy-long-words in
-    let size : length (x .last .0) ≡ 36 = rw (x .ensures) (length-take-le 36 (c .before .before .before .before .before .args .numbers .now) (omega arith)) in
-    omega (arith, length-append (x .last .0) (0 ∷ 0 ∷ 0 ∷ 0 ∷ 0 ∷ []))
+    let size : length (x .last .0) ≡ 38 = rw (x .ensures) (length-take-le 38 (c .before .before .before .before .before .args .numbers .now) (omega arith)) in
+    omega (arith, length-append (x .last .0) (0 ∷ 0 ∷ 0 ∷ 0 ∷ 0 ∷ 0 ∷ []))
 
 sub-copy-long-words-3 : tie.Need-sub-copy-long-words-3
 sub-copy-long-words-3 c = search needs

@@ -6,7 +6,7 @@ use Rattle.simp.proofs.records.simp_load.Statement.{statement}
 use Rattle.simp.proofs.records.simp_load.Tie as tie
 
 returns : tie.Need-returns
-returns c = loads-wrong _ _ (ne-eqb _ 38 (c .if1 .taken))
+returns c = loads-wrong _ _ (ne-eqb _ 40 (c .if1 .taken))
 
 load-requires : tie.Need-load-requires
 load-requires c κs = search needs
@@ -21,7 +21,7 @@ same-length : tie.Need-same-length
 same-length c = search needs
 
 returns-2 : tie.Need-returns-2
-returns-2 c = loads (eq-eqb _ 38 (c .before .before .before .before .before .before .before .if1 .left)) (c .before .before .before .before .before .before .load .ensures) (c .before .before .before .put-numbers .ensures) (c .outcome .ensures)
+returns-2 c = loads (eq-eqb _ 40 (c .before .before .before .before .before .before .before .if1 .left)) (c .before .before .before .before .before .before .load .ensures) (c .before .before .before .put-numbers .ensures) (c .outcome .ensures)
 
 pub simp-load-spec : {M : Type 1} → statement M
 simp-load-spec =

@@ -23,7 +23,7 @@ same-length c = search needs
 returns-2 : tie.Need-returns-2
 returns-2 c =
     let a = c .before .before .before .before .before .before .before .before .before .before .before .before .before .before .args in
-    runs-wrong-record (a .numbers .now) (a .image .now) (a .memory .now) (a .disk .now) (a .frame .now) (a .irq2 .now) (a .budget) (a .log .now) (a .report .now) (eq-eqb _ 3 (c .before .before .before .before .before .if1 .left)) (ne-eqb _ 38 (c .before .before .before .before .if2 .taken)) _ (c .before .before .put-report .ensures)
+    runs-wrong-record (a .numbers .now) (a .image .now) (a .memory .now) (a .disk .now) (a .frame .now) (a .irq2 .now) (a .budget) (a .log .now) (a .report .now) (eq-eqb _ 3 (c .before .before .before .before .before .if1 .left)) (ne-eqb _ 40 (c .before .before .before .before .if2 .taken)) _ (c .before .before .put-report .ensures)
 
 record-of-requires : tie.Need-record-of-requires
 record-of-requires c κs = search needs
@@ -76,7 +76,7 @@ returns-3 c =
     (a .log .now)
     (a .report .now)
     (eq-eqb _ 3 (c .before .before .before .before .before .before .before .before .before .before .before .before .before .before .before .before .before .before .before .before .before .before .before .before .before .before .before .if1 .left))
-    (eq-eqb _ 38 (c .before .before .before .before .before .before .before .before .before .before .before .before .before .before .before .before .before .before .before .before .before .before .before .before .before .before .if2 .left))
+    (eq-eqb _ 40 (c .before .before .before .before .before .before .before .before .before .before .before .before .before .before .before .before .before .before .before .before .before .before .before .before .before .before .if2 .left))
     _
     (c .before .before .before .before .before .before .before .before .before .before .before .before .before .before .before .before .before .before .before .before .before .before .before .before .record-of .ensures)
     (doneOf (r .result) (a .image .now) (r .last .1 .1 .0) (r .last .1 .1 .1 .0) (r .last .1 .1 .1 .1 .0) (r .last .1 .1 .1 .1 .1 .1 .1 .0))

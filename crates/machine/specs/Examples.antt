@@ -115,6 +115,22 @@ halted-at-work : (cycle (0x150000000000 ∷ []) [] (atWork 1) .memory ≡ replic
 unfolding atWork copier stepped finished devicesStepped diskStepped served memoryServed diskServed driveFallen ioFallen clocked taken fetchedAndExecuted executed outputted commanded painted atFetch interrupted irq2Raised isIn operationOf ioBits timed freed put
 halted-at-work = (refl, refl)
 
+-- "diskcmd ignores writes while diskstatus is 1", whatever diskbuffer holds; "stores 0 for 0 or 3"; and a command that is not accepted changes no I/O register.
+-- Of these clks goes on.
+ignored-goes-on : (cycle (0x14010200E002 ∷ []) [] (putIo diskbuffer 3969 (atWork 1)) .core ≡ record { status = 0; handler = 0; pc = 1; age = 1; drive = driveOf 1016 1 3 })
+    × (cycle (0x14010200E002 ∷ []) [] (putIo diskbuffer 3969 (atWork 1)) .io ≡ replicate 8 0 ++ (1 ∷ replicate 5 0) ++ (1 ∷ 1 ∷ 3969 ∷ 1 ∷ replicate 5 0))
+unfolding atWork copier stepped finished devicesStepped diskStepped served memoryServed diskServed driveFallen ioFallen clocked taken fetchedAndExecuted executed outputted commanded painted atFetch interrupted irq2Raised isIn operationOf ioBits timed freed put
+ignored-goes-on = (refl, refl)
+
+cleared-goes-on : (cycle (0x14010200E003 ∷ []) [] copier .core ≡ record { status = 0; handler = 0; pc = 1; age = 1; drive = freeDrive })
+    × (cycle (0x14010200E003 ∷ []) [] copier .io ≡ replicate 8 0 ++ (1 ∷ replicate 5 0) ++ (0 ∷ 1 ∷ 3 ∷ 0 ∷ replicate 5 0))
+unfolding copier stepped finished devicesStepped diskStepped served memoryServed diskServed driveFallen ioFallen clocked taken fetchedAndExecuted executed outputted commanded painted atFetch interrupted irq2Raised isIn operationOf ioBits timed freed put
+cleared-goes-on = (refl, refl)
+
+refused-keeps : cycle (0x14010200E001 ∷ []) [] (reader 3969) .io ≡ replicate 8 0 ++ (1 ∷ replicate 5 0) ++ (0 ∷ 0 ∷ 3969 ∷ 0 ∷ replicate 5 0)
+unfolding reader stepped finished devicesStepped diskStepped served memoryServed diskServed driveFallen ioFallen clocked taken fetchedAndExecuted executed outputted commanded painted atFetch interrupted irq2Raised isIn operationOf ioBits timed freed put
+refused-keeps = refl
+
 -- "diskstatus = 1", and diskcmd reads as the command.
 is-busy : drop 14 (cycle (0x14010200E002 ∷ []) [] copier .io) ≡ 2 ∷ 1 ∷ 3 ∷ 1 ∷ replicate 5 0
 unfolding copier stepped finished devicesStepped diskStepped served memoryServed diskServed driveFallen ioFallen clocked taken fetchedAndExecuted executed outputted commanded painted atFetch interrupted irq2Raised isIn operationOf ioBits timed freed put

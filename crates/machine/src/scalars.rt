@@ -1,4 +1,4 @@
-// One of the record's scalars changed, the others kept. The record's scalars are written out here alone.
+// One of the record's scalars changed, the others kept: where some are kept, they are written out here alone.
 use crate::Core;
 use devices::Drive;
 ghost use mathlib.Core.Path.{_≡_};

@@ -2,7 +2,7 @@
 use Prim.Native.Nat.{ℕ, zero, suc, ◌+◌, ◌-◌, ◌*◌, ◌/◌, ◌%◌, ◌^◌, ◌≤◌, ◌<◌, zero-le}
 use mathlib.Core.Path.{◌≡◌, refl, sym, ◌∙◌, ap}
 use mathlib.Core.Bool.{Bool, true, false, cond}
-use mathlib.Core.List.{List, [], ◌∷◌, ◌++◌}
+use mathlib.Core.List.{[], ◌∷◌, ◌++◌}
 use native.Mathlib.Nat.{le_refl, le_trans, le_antisymm, div-lt_self, zero-div, zero-lt-suc, le_of_lt, not-le_of_lt, pow-le-pow_right, le_of_suc-le-suc, pow-suc, div-lt_iff_lt-mul, le-div_iff_mul-le, mod-eq_of_lt, pow-zero, one-mul, div-div-eq-div-mul, lt_of_lt_of_le}
 use native.Mathlib.Numerals.{add-one}
 use native.Mathlib.Omega.{arith}

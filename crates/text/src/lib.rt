@@ -1,4 +1,6 @@
 // Numerals and lines in slices of bytes, and what a call that asks questions answers. Nothing here knows of a computer.
+#![tactic(auto)]
+
 pub mod decimal;
 pub mod digits;
 pub mod hex_words;

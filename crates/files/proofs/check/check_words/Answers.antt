@@ -3,7 +3,6 @@ use mathlib.Core.Path.{◌≡◌, refl, sym, ◌∙◌}
 use mathlib.Core.Bool.{true}
 use native.Mathlib.Omega.{arith}
 use lib.ListN.{length, drop}
-use borrow.Author.Tests.{not-true, not-false}
 use Rattle.text.specs.Lines.{first_line}
 use Rattle.files.specs.MemoryFile.{is_word, lines_outcome}
 use Rattle.files.proofs.CheckLaws.{check_full, check_bad, check_good, check_end, word-inside}
@@ -14,12 +13,12 @@ unfolding lines_outcome
 loop-at-init c = (refl, omega arith, omega arith)
 
 pub returns-then-room-i : goal.returns-then-room-i
-returns-then-room-i c =     let l = c.loop-at in
+returns-then-room-i c = let l = c.loop-at in
     let a = c.args in
     check_full a.k a.room a.text.now l.at l.i (omega arith) (omega arith) ∙ l.invariant.0
 
 pub returns-then-not-is_word : goal.returns-then-not-is_word
-returns-then-not-is_word c =     let l = c.loop-at in
+returns-then-not-is_word c = let l = c.loop-at in
     let a = c.args in
     check_bad a.k a.room a.text.now l.at l.i (omega arith) (omega arith) (sym c.is_word.ensures ∙ c.if-not-is_word.true) ∙ l.invariant.0
 
@@ -47,6 +46,6 @@ loop-at-preserved c =
     )
 
 pub returns : goal.returns
-returns c =     let l = c.loop-at in
+returns c = let l = c.loop-at in
     let a = c.args in
     check_end a.k a.room a.text.now l.at l.i (omega arith) ∙ l.invariant.0

@@ -1,13 +1,9 @@
 use Prim.Native.Nat.{◌+◌, ◌-◌, ◌≤◌}
-use mathlib.Core.Path.{◌≡◌, refl, sym, ◌∙◌}
-use mathlib.Core.Bool.{true}
-use native.Mathlib.Omega.{arith}
+use mathlib.Core.Path.{◌≡◌}
 use lib.ListN.{length, drop}
-use borrow.Author.Tests.{not-true, not-false}
 use Rattle.text.specs.Questions.{accepted, first_bad}
-use Rattle.text.specs.Lines.{lines, first_line}
-use Rattle.files.specs.MemoryFile.{is_word, word_questions, lines_outcome}
-use Rattle.files.proofs.CheckLaws.{check_full, check_bad, check_good, check_end, word-inside}
+use Rattle.text.specs.Lines.{lines}
+use Rattle.files.specs.MemoryFile.{word_questions, lines_outcome}
 use Rattle.files.proofs.check.check_words.Given as goal
 
 abbrev pub invariant-loop-at : goal.invariant-loop-at

@@ -1,7 +1,6 @@
 use Prim.Native.Nat.{◌-◌}
-use native.Mathlib.Omega.{arith}
-use lib.ListN.{length, length-set}
-use Rattle.files.proofs.FillLaws.{Clearing, clear_start, clear_turn, clear_end}
+use lib.ListN.{length}
+use Rattle.files.proofs.FillLaws.{Clearing}
 use Rattle.files.proofs.fill.clear_image.Given as goal
 
 abbrev pub invariant-loop-i : goal.invariant-loop-i

@@ -1,7 +1,6 @@
 use Prim.Native.Nat.{◌+◌, ◌-◌}
-use native.Mathlib.Omega.{arith}
 use lib.ListN.{length}
-use Rattle.files.proofs.FillLaws.{Filling, fill_start, fill_word, fill_room, fill_fits, fill_turn, fill_end}
+use Rattle.files.proofs.FillLaws.{Filling}
 use Rattle.files.proofs.fill.fill_image.Given as goal
 
 abbrev pub invariant-loop-at : goal.invariant-loop-at

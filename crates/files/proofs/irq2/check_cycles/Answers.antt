@@ -15,12 +15,12 @@ unfolding irq2_outcome least_after
 loop-at-init c = (refl, refl, refl, omega arith, omega arith, omega arith)
 
 pub returns-then-room-i : goal.returns-then-room-i
-returns-then-room-i c =     let l = c.loop-at in
+returns-then-room-i c = let l = c.loop-at in
     let a = c.args in
     cycle-full a.room a.text.now l.at l.i _ c.loop-at-test.true refl _ c.if-room-i.true ∙ l.invariant.0
 
 pub returns-in_default : goal.returns-in_default
-returns-in_default c =     let l = c.loop-at in
+returns-in_default c = let l = c.loop-at in
     let a = c.args in
     let e = c.short_line_end-end in
     let line = take (e.result - l.at) (drop l.at a.text.now) in
@@ -28,7 +28,7 @@ returns-in_default c =     let l = c.loop-at in
     (number_no (is_cycle line) (value 10 line) (sym c.in_default.ensures)) ∙ l.invariant.0
 
 pub returns-then-cycle-least : goal.returns-then-cycle-least
-returns-then-cycle-least c =     let l = c.loop-at in
+returns-then-cycle-least c = let l = c.loop-at in
     let a = c.args in
     let e = c.short_line_end-end in
     let line = take (e.result - l.at) (drop l.at a.text.now) in
@@ -38,7 +38,7 @@ returns-then-cycle-least c =     let l = c.loop-at in
     (number_yes (is_cycle line) (value 10 line) _ outcome) (rw (← is, ← l.invariant.2) c.if-cycle-least.true) ∙ l.invariant.0
 
 pub loop-at-preserved : goal.loop-at-preserved
-loop-at-preserved c =     let l = c.loop-at in
+loop-at-preserved c = let l = c.loop-at in
     let a = c.args in
     let e = c.short_line_end-end in
     let inside = c.loop-at-test.true in
@@ -58,7 +58,7 @@ loop-at-preserved c =     let l = c.loop-at in
     )
 
 pub returns : goal.returns
-returns c =     let l = c.loop-at in
+returns c = let l = c.loop-at in
     let a = c.args in
     let all = count-end a.room a.text.now l.at l.i c.loop-at-test.false l.invariant.3 in
     rw all (cycle-end a.room a.text.now l.at l.i c.loop-at-test.false _ ∙ l.invariant.0)

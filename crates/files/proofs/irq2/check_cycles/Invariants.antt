@@ -1,15 +1,10 @@
-use Prim.Native.Nat.{◌+◌, ◌-◌, ◌^◌, ◌≤◌, ◌<◌}
-use mathlib.Core.Path.{◌≡◌, refl, sym, ◌∙◌, ap}
-use native.Mathlib.Omega.{arith}
-use lib.ListN.{length, take, drop}
-use borrow.Author.Rules.{rules}
+use Prim.Native.Nat.{◌+◌, ◌-◌, ◌≤◌}
+use mathlib.Core.Path.{◌≡◌}
+use lib.ListN.{length, drop}
 use Rattle.text.specs.Questions.{accepted, first_bad}
-use Rattle.text.specs.Numerals.{value}
 use Rattle.text.specs.Lines.{lines}
-use Rattle.text.proofs.DigitLaws.{number_yes, number_no, number-value}
-use Rattle.text.proofs.LineLaws.{lines_at_lem}
-use Rattle.files.specs.Irq2File.{is_cycle, cycle_questions, irq2_outcome}
-use Rattle.files.proofs.Irq2Laws.{least_after, next-is, least_next, cycle-full, cycle_bad, cycle_low, cycle-good, cycle-end, count-end, cycle_below}
+use Rattle.files.specs.Irq2File.{cycle_questions, irq2_outcome}
+use Rattle.files.proofs.Irq2Laws.{least_after}
 use Rattle.files.proofs.irq2.check_cycles.Given as goal
 
 abbrev pub invariant-loop-at : goal.invariant-loop-at

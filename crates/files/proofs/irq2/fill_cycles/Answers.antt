@@ -12,7 +12,7 @@ unfolding irq2_outcome
 loop-at-init c = (refl, c.requires.0, refl, omega arith)
 
 pub value_of-requires : goal.value_of-requires
-value_of-requires c =     let l = c.loop-at in
+value_of-requires c = let l = c.loop-at in
     let a = c.args in
     let e = c.short_line_end-end in
     let form = cycle-form (length a.cycles.now) a.text.now l.at l.i e.result (length (lines a.text.now)) c.loop-at-test.true e.ensures.0 l.invariant.1 in
@@ -43,7 +43,7 @@ overflow_add-i c =
     let room = fill_room in omega arith
 
 pub loop-at-preserved : goal.loop-at-preserved
-loop-at-preserved c =     let l = c.loop-at in
+loop-at-preserved c = let l = c.loop-at in
     let a = c.args in
     let e = c.short_line_end-end in
     let inside = c.loop-at-test.true in
@@ -55,5 +55,5 @@ loop-at-preserved c =     let l = c.loop-at in
     )
 
 pub returns : goal.returns
-returns c =     let l = c.loop-at in
+returns c = let l = c.loop-at in
     cycles-end c.args.text.now l.cycles l.at l.i c.loop-at-test.false ∙ l.invariant.0

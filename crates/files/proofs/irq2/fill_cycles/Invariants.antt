@@ -1,14 +1,12 @@
-use Prim.Native.Nat.{◌+◌, ◌-◌, ◌≤◌, ◌<◌}
-use mathlib.Core.Path.{◌≡◌, refl, ◌∙◌}
+use Prim.Native.Nat.{◌+◌, ◌-◌, ◌≤◌}
+use mathlib.Core.Path.{◌≡◌}
 use mathlib.Core.List.{map}
-use native.Mathlib.Omega.{arith}
-use lib.ListN.{length, drop, length-set}
+use lib.ListN.{length, drop}
 use Rattle.text.specs.Questions.{accepted, first_bad}
 use Rattle.text.specs.Numerals.{value}
 use Rattle.text.specs.Lines.{lines}
 use Rattle.text.specs.Place.{put}
-use Rattle.files.specs.Irq2File.{cycle_questions, irq2_outcome, file_cycles}
-use Rattle.files.proofs.Irq2Laws.{cycle-room, cycle-form, cycle-next, cycle_turn, cycles-end}
+use Rattle.files.specs.Irq2File.{cycle_questions, file_cycles}
 use Rattle.files.proofs.irq2.fill_cycles.Given as goal
 
 abbrev pub invariant-loop-at : goal.invariant-loop-at

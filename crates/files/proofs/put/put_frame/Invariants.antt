@@ -1,8 +1,6 @@
 use Prim.Native.Nat.{◌-◌}
-use mathlib.Core.Path.{refl}
-use native.Mathlib.Omega.{arith}
 use lib.ListN.{length}
-use Rattle.files.proofs.PutLaws.{Putting, put-start, put-room, put_turn, put-end}
+use Rattle.files.proofs.PutLaws.{Putting}
 use Rattle.files.proofs.put.put_frame.Given as goal
 
 abbrev pub invariant-loop-i : goal.invariant-loop-i

@@ -1,5 +1,4 @@
 use mathlib.Core.Path.{sym, ◌∙◌}
-use borrow.Author.Tests.{not-true, not-false}
 use Rattle.files.proofs.AnswerLaws.{read_wrong_length, read_asked}
 use Rattle.files.proofs.read.read_disk.Goals as goal
 

@@ -1,6 +1,5 @@
 use Prim.Native.Nat.{◌+◌, ◌-◌}
-use native.Mathlib.Omega.{arith}
-use Rattle.files.proofs.PutLaws.{PuttingSectors, length-sector, sector-start, sector_turn, sector-end}
+use Rattle.files.proofs.PutLaws.{PuttingSectors}
 use Rattle.files.proofs.write.put_sectors.Given as goal
 
 abbrev pub invariant-loop-s : goal.invariant-loop-s

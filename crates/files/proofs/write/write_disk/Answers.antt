@@ -3,7 +3,6 @@ use mathlib.Core.Path.{◌≡◌, sym, ◌∙◌}
 use mathlib.Core.Bool.{true}
 use native.Mathlib.Omega.{arith}
 use lib.ListN.{length}
-use borrow.Author.Tests.{not-true, not-false}
 use Rattle.files.specs.Sizes.{is_disk_part}
 use Rattle.files.proofs.SizeLaws.{length_part}
 use Rattle.files.proofs.AnswerLaws.{wrong_length, no_room, wrote}

@@ -1,4 +1,5 @@
 // Assembly text without an instruction set: bytes, tokens with their places, numbers, names and the shapes of lines. What they are stands in specs/.
+#![tactic(auto)]
 
 pub mod bytes;
 pub mod names;

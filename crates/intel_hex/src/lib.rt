@@ -12,7 +12,7 @@ pub use put::put_hex_text;
 pub use read::read_hex;
 
 // What reading a text answers. Places are lines, from 1.
-#[derive(Drop)]
+#[derive(Clone, Copy)]
 pub enum HexRead {
     // The text is good: every word of the memory is set.
     Filled,

@@ -1,4 +1,6 @@
 // One line of assembly text: its form, and the names and numbers in it.
+#![tactic(auto)]
+
 pub mod forms;
 pub mod instructions;
 pub mod ranges;

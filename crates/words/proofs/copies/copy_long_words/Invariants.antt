@@ -1,5 +1,5 @@
-use Rattle.std.proofs.Common.{◌≡◌, ◌-◌, length, refl, arith, length-set}
-use Rattle.text.proofs.CopyLaws.{Copying, begun, turned, finished}
+use Rattle.std.proofs.Common.{◌≡◌, ◌-◌, length}
+use Rattle.text.proofs.CopyLaws.{Copying}
 use Rattle.words.proofs.copies.copy_long_words.Given as goal
 
 abbrev pub invariant-loop-i : goal.invariant-loop-i

@@ -1,5 +1,5 @@
 use Rattle.isa.specs.Operations.{calculation_of}
-use Rattle.words.proofs.WordLaws.{last}
+use Rattle.std.proofs.Common.{◌≡◌, arith}
 use Rattle.words.proofs.operations.calculate.Goals as goal
 
 pub returns-in-0 : goal.returns-in-0
@@ -36,4 +36,6 @@ returns-in-7 c = rw c.in-7.is c.shift_signed.ensures
 
 pub returns-in_default : goal.returns-in_default
 unfolding calculation_of
-returns-in_default c = rw (last 8 c.args.op c.requires c.in_default.rest)
+returns-in_default c =
+    let eight : c.args.op ≡ 8 = omega arith in
+    rw eight

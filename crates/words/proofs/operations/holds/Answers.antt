@@ -13,18 +13,18 @@ returns-in-10 c = rw c.in-10.is
 
 pub returns-in-11 : goal.returns-in-11
 unfolding comparison_of
-returns-in-11 c = rw (c.in-11.is, reads c.signed.type-inv c.signed.ensures, reads c.signed-in-11.type-inv c.signed-in-11.ensures)
+returns-in-11 c = rw (c.in-11.is, reads c.signed.type_inv c.signed.ensures, reads c.signed-in-11.type_inv c.signed-in-11.ensures)
 
 pub returns-in-12 : goal.returns-in-12
 unfolding comparison_of
-returns-in-12 c = rw (c.in-12.is, reads c.signed-in-12.type-inv c.signed-in-12.ensures, reads c.signed-in-12-2.type-inv c.signed-in-12-2.ensures)
+returns-in-12 c = rw (c.in-12.is, reads c.signed-in-12.type_inv c.signed-in-12.ensures, reads c.signed-in-12-2.type_inv c.signed-in-12-2.ensures)
 
 pub returns-in-13 : goal.returns-in-13
 unfolding comparison_of
-returns-in-13 c = rw (c.in-13.is, reads c.signed-in-13.type-inv c.signed-in-13.ensures, reads c.signed-in-13-2.type-inv c.signed-in-13-2.ensures)
+returns-in-13 c = rw (c.in-13.is, reads c.signed-in-13.type_inv c.signed-in-13.ensures, reads c.signed-in-13-2.type_inv c.signed-in-13-2.ensures)
 
 pub returns-in_default : goal.returns-in_default
 unfolding comparison_of
 returns-in_default c =
     let fourteen : c.args.op ≡ 14 = omega arith in
-    rw (fourteen, reads c.signed-in_default.type-inv c.signed-in_default.ensures, reads c.signed-in_default-2.type-inv c.signed-in_default-2.ensures)
+    rw (fourteen, reads c.signed-in_default.type_inv c.signed-in_default.ensures, reads c.signed-in_default-2.type_inv c.signed-in_default-2.ensures)

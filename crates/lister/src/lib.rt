@@ -17,7 +17,7 @@ pub use used::used_words;
 const MOST_WORDS: usize = 4096;
 
 // What listing answers.
-#[derive(Drop)]
+#[derive(Clone, Copy)]
 pub enum Listed {
     // So many bytes of text stand at the front of the lent slice.
     Bytes(usize),

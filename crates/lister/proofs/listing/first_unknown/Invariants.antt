@@ -1,11 +1,8 @@
 use Prim.Native.Nat.{◌-◌, ◌≤◌}
-use mathlib.Core.Path.{◌≡◌, refl, sym, ◌∙◌}
-use native.Mathlib.Omega.{arith}
+use mathlib.Core.Path.{◌≡◌}
 use lib.ListN.{length, drop}
-use borrow.Author.Rules.{rules}
 use Rattle.text.specs.declared.Outcome.{Outcome}
 use Rattle.lister.specs.Calls.{first_unknown}
-use Rattle.lister.proofs.ListingLaws.{unknown_turn, unknown_here, unknown_past, found, not_found}
 use Rattle.lister.proofs.listing.first_unknown.Given as goal
 
 abbrev pub invariant-loop-i : goal.invariant-loop-i

@@ -1,11 +1,8 @@
 use Prim.Native.Nat.{◌+◌, ◌-◌, ◌≤◌}
-use mathlib.Core.Path.{◌≡◌, refl, ◌∙◌}
-use native.Mathlib.Omega.{arith}
+use mathlib.Core.Path.{◌≡◌}
 use lib.ListN.{length, drop}
-use borrow.Author.Rules.{rules}
 use Rattle.text.specs.Place.{put}
 use Rattle.lister.specs.Listing.{listing}
-use Rattle.lister.proofs.ListingLaws.{length_turn, length-end, put_turn, put-end}
 use Rattle.lister.proofs.listing.put_lines.Given as goal
 
 abbrev pub invariant-loop-i : goal.invariant-loop-i

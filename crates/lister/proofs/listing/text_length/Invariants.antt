@@ -1,10 +1,7 @@
 use Prim.Native.Nat.{◌+◌, ◌-◌, ◌*◌, ◌≤◌}
 use mathlib.Core.Path.{◌≡◌}
-use native.Mathlib.Omega.{arith}
 use lib.ListN.{length, drop}
-use borrow.Author.Rules.{rules}
 use Rattle.lister.specs.Listing.{listing}
-use Rattle.lister.proofs.ListingLaws.{length_turn, length-end}
 use Rattle.lister.proofs.listing.text_length.Given as goal
 
 abbrev pub invariant-loop-i : goal.invariant-loop-i

@@ -1,7 +1,5 @@
 use Prim.Native.Nat.{◌-◌, ◌*◌}
-use mathlib.Core.Path.{refl}
-use native.Mathlib.Omega.{arith}
-use Rattle.text.proofs.TableLaws.{Filled, none_filled, one-filled, all-filled}
+use Rattle.text.proofs.TableLaws.{Filled}
 use Rattle.lister.specs.Pieces.{eight_at}
 use Rattle.lister.proofs.table.eights.Given as goal
 

@@ -1,5 +1,4 @@
-use native.Mathlib.Omega.{arith}
-use Rattle.lister.proofs.UsedLaws.{ZeroFrom, zero-first, zero_more, used_here, none_used}
+use Rattle.lister.proofs.UsedLaws.{ZeroFrom}
 use Rattle.lister.proofs.used.used_words.Given as goal
 
 abbrev pub invariant-loop-n : goal.invariant-loop-n

@@ -1,5 +1,5 @@
 // Files compared.
-ghost use Rattle.io.specs.Counts.{IsPrefixLen};
+ghost use Rattle.console.specs.Counts.{IsPrefixLen};
 
 use console::say;
 use memories::{Count, read_front_at};

@@ -1,6 +1,6 @@
 // The steps in the arguments.
 ghost use Rattle.std.specs.Prelude.{◌≡◌, ◌+◌, ◌^◌, ◌≤◌, ◌<◌, length};
-ghost use Rattle.io.specs.Counts.{IsPrefixLen};
+ghost use Rattle.console.specs.Counts.{IsPrefixLen};
 ghost use Rattle.check_commands.specs.Keys.{key_of, words_of};
 
 use console::{LINE, put_if_room, say};

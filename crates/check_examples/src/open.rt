@@ -1,6 +1,6 @@
 // The files of a folder.
 ghost use Rattle.std.specs.Prelude.{◌≤◌, length};
-ghost use Rattle.io.specs.Counts.{IsPrefixLen};
+ghost use Rattle.console.specs.Counts.{IsPrefixLen};
 
 use console::is_missing;
 use text::place::put_bytes;

@@ -1,5 +1,7 @@
 // Intel HEX for memories of 32-bit words: read into a memory of any number of them, and written from one that records of 16 bytes fill within 64 KiB.
 // Nothing here knows of a computer.
+#![tactic(auto)]
+
 mod answers;
 mod ask;
 mod fill;

@@ -1,6 +1,6 @@
 // The help text. It is put together first, so that it is written at once.
 ghost use Rattle.std.specs.Prelude.{◌≤◌, length};
-ghost use Rattle.io.specs.Counts.{IsPrefixLen};
+ghost use Rattle.console.specs.Counts.{IsPrefixLen};
 
 use console::{LINE, put_if_room, say};
 

@@ -1,5 +1,5 @@
 -- src/disk.rt:31:8
-use Rattle.std.proofs.Common.{refl, eq-eqb, ne_eqb}
+use Rattle.std.proofs.Common.{refl, arith, eq-eqb, ne_eqb}
 use Rattle.devices.specs.Command.{taken}
 use Rattle.devices.proofs.MoveLaws.{no_command}
 use Rattle.devices.proofs.command.take_command.Goals as goal
@@ -27,5 +27,4 @@ returns-in-2 c =
 pub returns-in_default : goal.returns-in_default
 unfolding taken
 returns-in_default c =
-    let rest = c.in_default.in_default-own.rest in
-    rw (eq-eqb _ _ c.if-io-ne0.false, no_command c.args.low rest.0.1 rest.1) (refl, refl)
+    rw (eq-eqb _ _ c.if-io-ne0.false, no_command c.args.low (λ e. omega arith) (λ e. omega arith)) (refl, refl)

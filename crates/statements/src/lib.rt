@@ -1,4 +1,6 @@
 // One line of an assembly text: what it says, the questions that it is asked, and what it stores.
+#![tactic(auto)]
+
 pub mod ask;
 pub mod read;
 pub mod store;

@@ -3,8 +3,6 @@ use Prim.Native.Nat.{ℕ, suc, ◌+◌, ◌-◌, ◌*◌, ◌/◌, ◌%◌, ◌^
 use mathlib.Core.Path.{◌≡◌, refl, sym, ◌∙◌, ap}
 use mathlib.Core.Bool.{Bool, true, false, cond}
 use mathlib.Core.List.{List, [], ◌∷◌, ◌++◌, append_assoc}
-use native.Mathlib.Nat.{zero-add}
-use native.Mathlib.Numerals.{add-one}
 use native.Mathlib.Omega.{arith}
 use lib.Dec.{eqb, ltb}
 use lib.ListN.{length, take, get_or, set, replicate, length-append}
@@ -15,9 +13,8 @@ use Rattle.text.specs.Place.{put}
 use Rattle.text.proofs.Truth.{below}
 use Rattle.text.proofs.PieceLaws.{more as joined, put-cut}
 use Rattle.text.proofs.DigitLaws.{digits_split, digits_low}
-use Rattle.text.proofs.DecimalLaws.{count_pos, count-one, count-is, count_hundreds, count_le, decimal-one, decimal_two, decimal_hundreds, halves-digits}
+use Rattle.text.proofs.DecimalLaws.{count_pos, count-one, count-is, count_hundreds, decimal-one, decimal_two, decimal_hundreds, halves-digits}
 use Rattle.text.proofs.HexWordLaws.{length_low, low_split, low_front, pair, pair-bytes, entry-pair}
-use Rattle.trace.specs.LogLines.{field}
 use Rattle.trace.specs.Prefixes.{cycle_prefix, last_two, GivesPrefix, IsPrefix}
 
 -- ---- the last two characters

@@ -1,4 +1,5 @@
 // The record of the machine, and what an instruction works on. What a cycle does with them stands in specs/.
+#![tactic(auto)]
 
 use devices::Drive;
 

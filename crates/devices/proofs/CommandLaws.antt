@@ -1,9 +1,9 @@
 -- A command over its 1,024 cycles, whatever computer it is given in and whatever its instructions do that leave the drive, diskcmd and diskstatus of a busy disk
 -- alone. Assumes nothing.
-use Rattle.std.proofs.Common.{◌≡◌, ℕ, zero, suc, ◌+◌, ◌-◌, ◌*◌, ◌%◌, ◌<◌, ◌≤◌, List, length, get_or, set, refl, ap, ◌∙◌, arith, length-set, get_or-set_other, get_or-set_same}
+use Rattle.std.proofs.Common.{◌≡◌, ℕ, zero, suc, ◌+◌, ◌-◌, ◌*◌, ◌%◌, ◌<◌, ◌≤◌, List, length, get_or, set, ap, ◌∙◌, arith, length-set, get_or-set_other, get_or-set_same}
 use Rattle.devices.specs.declared.Drive.{Drive}
 use Rattle.devices.specs.Numbers.{irq0status, clks, timercurrent, diskcmd, disksector, diskbuffer, diskstatus, device_registers}
-use Rattle.devices.specs.Bus.{Bus, drive_of}
+use Rattle.devices.specs.Bus.{Bus}
 use Rattle.devices.specs.Command.{new_drive}
 use Rattle.devices.specs.Disk.{word_due}
 use Rattle.devices.specs.Transfer.{Cycled, Busy, GotFree, NoWord, WordMoved}

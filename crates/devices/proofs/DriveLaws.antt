@@ -1,12 +1,12 @@
 -- One cycle of a disk, whatever computer it stands in. Assumes nothing.
-use Rattle.std.proofs.Common.{◌≡◌, ℕ, ◌+◌, ◌-◌, ◌*◌, ◌%◌, ◌^◌, ◌<◌, ◌≤◌, Bool, true, false, cond, eqb, ltb, List, length, get_or, set, sym, refl, ap, ◌∙◌, arith, length-set, get_or-set_other, get_or-set_same, lt-ltb, eq-eqb, ne_eqb, eqb-true}
+use Rattle.std.proofs.Common.{◌≡◌, ℕ, ◌+◌, ◌-◌, ◌%◌, ◌^◌, ◌<◌, ◌≤◌, Bool, true, false, cond, eqb, List, length, get_or, set, sym, refl, ap, ◌∙◌, arith, length-set, get_or-set_other, get_or-set_same, lt-ltb, eq-eqb, ne_eqb, eqb-true}
 use Rattle.devices.specs.declared.Drive.{Drive}
 use Rattle.devices.specs.Numbers.{irq0status, irq1status, clks, timerenable, timercurrent, timermax, diskcmd, diskstatus, device_registers}
 use Rattle.devices.specs.Timer.{timed}
-use Rattle.devices.specs.Bus.{Bus, bus, drive_of, free_drive, with_io}
-use Rattle.devices.specs.Disk.{memory_moved, disk_moved, word_due, memory_served, disk_served, freed, drive_fallen, io_fallen, served, disk_stepped}
+use Rattle.devices.specs.Bus.{Bus, drive_of, free_drive, with_io}
+use Rattle.devices.specs.Disk.{word_due, memory_served, disk_served, freed, drive_fallen, io_fallen, served, disk_stepped}
 use Rattle.devices.specs.Devices.{clocked, devices_stepped}
-use Rattle.devices.specs.Transfer.{Keeps, Cycled, Busy, GotFree, NoWord, WordMoved}
+use Rattle.devices.specs.Transfer.{Cycled, Busy, GotFree, NoWord, WordMoved}
 use Rattle.devices.proofs.TimerLaws.{length-timed}
 
 -- ---- the I/O registers that the timer, the clock and the disk leave alone

@@ -1,5 +1,5 @@
 -- The devices' steps keep what fits: the I/O registers, and the lengths and words of the data memory and the disk. Assumes nothing.
-use Rattle.std.proofs.Common.{◌≡◌, ℕ, ◌+◌, ◌-◌, ◌%◌, ◌^◌, ◌<◌, Bool, true, false, cond, eqb, ltb, List, length, get_or, set, refl, ◌∙◌, arith, length-set}
+use Rattle.std.proofs.Common.{◌≡◌, ℕ, ◌+◌, ◌-◌, ◌%◌, ◌^◌, ◌<◌, Bool, true, false, cond, eqb, ltb, List, length, get_or, set, refl, ◌∙◌, length-set}
 use Rattle.text.specs.Ranges.{Below}
 use Rattle.text.proofs.RangeLaws.{holds_after}
 use Rattle.devices.specs.declared.Taken.{Taken}
@@ -8,7 +8,7 @@ use Rattle.devices.specs.Numbers.{irq0status, irq1status, clks, timerenable, tim
 use Rattle.devices.specs.Timer.{timed}
 use Rattle.devices.specs.Bus.{Bus, with_io}
 use Rattle.devices.specs.Command.{io_after}
-use Rattle.devices.specs.Disk.{in_memory, on_disk, memory_moved, disk_moved, is_due, word_due, memory_served, disk_served, freed, io_fallen, served, disk_stepped}
+use Rattle.devices.specs.Disk.{in_memory, on_disk, is_due, word_due, memory_served, disk_served, freed, io_fallen, served, disk_stepped}
 use Rattle.devices.specs.Devices.{clocked, devices_stepped}
 use Rattle.devices.proofs.TimerLaws.{length-timed}
 use Rattle.devices.proofs.DriveLaws.{length-clocked, length-freed}

@@ -1,4 +1,6 @@
 // The timer, the disk and the clock, as any computer has them.
+#![tactic(auto)]
+
 pub mod clock;
 pub mod command;
 pub mod cycle;

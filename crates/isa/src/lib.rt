@@ -1,4 +1,6 @@
 // The 2023 instruction set: the instruction word's fields, the opcodes, and the I/O registers.
+#![tactic(auto)]
+
 pub mod io;
 pub mod opcodes;
 pub mod word;

@@ -1,4 +1,6 @@
 // The lister: instruction words as assembly text. What it writes and what it answers stand in specs/.
+#![tactic(auto)]
+
 mod answers;
 mod immediates;
 mod lengths;

@@ -1,4 +1,6 @@
 // The names of I/O registers, put into a text.
+#![tactic(auto)]
+
 ghost use Rattle.std.specs.Prelude.{◌+◌, ◌≤◌, length};
 ghost use Rattle.text.specs.Place.{Puts};
 ghost use Rattle.isa.specs.Registers.{io_name};
@@ -6,6 +8,7 @@ ghost use Rattle.isa.specs.Registers.{io_name};
 use text::place::put_bytes;
 
 // Puts the name of an I/O register at a place and returns the place after it; a number that names none puts nothing.
+#[tactic(auto, unfolding(isa::specs::Registers::io_name))]
 pub fn put_io_name(out: &mut [u8], at: usize, n: u32) -> usize
     requires { at + length (io_name n) ≤ length out.old }
     ensures { Puts out.old at (io_name n) result out.new }
@@ -27,6 +30,7 @@ pub fn put_io_name(out: &mut [u8], at: usize, n: u32) -> usize
 }
 
 // The names of the timer's, the disk's and the monitor's registers: 11 to 22.
+#[tactic(auto, unfolding(isa::specs::Registers::io_name))]
 fn put_device_name(out: &mut [u8], at: usize, n: u32) -> usize
     requires { (at + length (io_name n) ≤ length out.old) × (11 ≤ n) }
     ensures { Puts out.old at (io_name n) result out.new }

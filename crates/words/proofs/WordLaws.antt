@@ -34,7 +34,7 @@ plain n e = go (ltb n (2 ^ 31)) e
 
 -- A signed number that is held as a word reads as what it is.
 pub reads : {z s : ℤ} → mag z < 2 ^ 31 → z ≡ s → to_z w32 (of_z w32 z) ≡ s
-reads h e = to_z-of_z (record { sfits = h }) ∙ e
+reads {z} h e = to_z-of_z {w = w32} {z = z} (record { sfits = h }) ∙ e
 
 -- So does one that is moved right.
 pub shifted : {z s : ℤ} (m : ℕ) → mag z < 2 ^ 31 → z ≡ s → to_z w32 (of_z w32 (shr_z (to_z w32 (of_z w32 z)) m)) ≡ shr_z s m

@@ -1,4 +1,6 @@
 // Words of 32 bits: what the instruction set calculates and compares.
+#![tactic(auto)]
+
 pub mod arithmetic;
 pub mod copies;
 pub mod operations;

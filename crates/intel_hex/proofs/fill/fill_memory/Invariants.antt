@@ -1,11 +1,8 @@
 use Prim.Native.Nat.{◌-◌, ◌*◌, ◌≤◌}
-use mathlib.Core.Path.{◌≡◌, refl, ◌∙◌}
+use mathlib.Core.Path.{◌≡◌}
 use mathlib.Core.List.{◌++◌}
-use native.Mathlib.Omega.{arith}
-use native.Mathlib.Nat.{sub-zero}
-use lib.ListN.{length, take, drop, length-set}
+use lib.ListN.{length, take, drop}
 use Rattle.intel_hex.specs.Words.{words_of}
-use Rattle.intel_hex.proofs.FillLaws.{words_turn, words-end}
 use Rattle.intel_hex.proofs.fill.fill_memory.Given as goal
 
 abbrev pub invariant-loop-i : goal.invariant-loop-i

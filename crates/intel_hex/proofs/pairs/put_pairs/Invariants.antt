@@ -1,14 +1,11 @@
 use Prim.Native.Nat.{◌+◌, ◌-◌, ◌*◌, ◌%◌, ◌≤◌}
-use mathlib.Core.Path.{◌≡◌, refl, ◌∙◌}
+use mathlib.Core.Path.{◌≡◌}
 use mathlib.Core.Bool.{◌&&◌}
 use mathlib.Core.List.{map}
-use native.Mathlib.Omega.{arith}
-use lib.ListN.{length, drop, length-set}
+use lib.ListN.{length, drop}
 use Rattle.text.specs.Numerals.{all_digits}
 use Rattle.text.specs.Place.{put}
 use Rattle.intel_hex.specs.Record.{pair_values, total}
-use Rattle.intel_hex.proofs.PairLaws.{good_turn, sum_turn, bytes_turn, good-end, sum_end, bytes-end}
-use native.Mathlib.Nat.{add-zero, zero-add}
 use Rattle.intel_hex.proofs.pairs.put_pairs.Given as goal
 
 abbrev pub invariant-loop-k : goal.invariant-loop-k

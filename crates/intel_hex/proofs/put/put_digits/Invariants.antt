@@ -1,13 +1,10 @@
-use Prim.Native.Nat.{◌+◌, ◌-◌, ◌*◌, ◌/◌, ◌%◌, ◌^◌, ◌≤◌, ◌<◌}
-use mathlib.Core.Path.{◌≡◌, refl, ◌∙◌}
-use native.Mathlib.Omega.{arith}
-use native.Mathlib.Nat.{add-zero, zero-add, zero-mul}
-use lib.ListN.{length, drop, get_or}
+use Prim.Native.Nat.{◌+◌, ◌-◌, ◌*◌, ◌/◌, ◌%◌, ◌≤◌}
+use mathlib.Core.Path.{◌≡◌}
+use lib.ListN.{length, drop}
 use Rattle.text.specs.Place.{put}
 use Rattle.intel_hex.specs.Words.{memory_bytes}
 use Rattle.intel_hex.specs.Record.{total}
 use Rattle.intel_hex.specs.Writing.{byte_pairs}
-use Rattle.intel_hex.proofs.PutLaws.{low_le, high_le, sum_turn, sum_end, digits_turn, digits-end}
 use Rattle.intel_hex.proofs.put.put_digits.Given as goal
 
 abbrev pub invariant-loop-i : goal.invariant-loop-i

@@ -1,12 +1,9 @@
-use Prim.Native.Nat.{◌+◌, ◌-◌, ◌*◌, ◌%◌, ◌≤◌}
-use mathlib.Core.Path.{◌≡◌, refl, ◌∙◌, ap}
-use native.Mathlib.Omega.{arith}
-use native.Mathlib.Nat.{sub-zero}
-use lib.ListN.{length, drop, length-drop}
-use lib.Seq.{length-take-le}
+use Prim.Native.Nat.{◌-◌, ◌*◌, ◌%◌, ◌≤◌}
+use mathlib.Core.Path.{◌≡◌}
+use lib.ListN.{length}
 use Rattle.text.specs.Place.{put}
 use Rattle.intel_hex.specs.Writing.{hex_text}
-use Rattle.intel_hex.proofs.PutLaws.{four_left, rest_text, text_turn, text-end, length-text}
+use Rattle.intel_hex.proofs.PutLaws.{rest_text}
 use Rattle.intel_hex.proofs.put.put_hex_text.Given as goal
 
 abbrev pub invariant-loop-i : goal.invariant-loop-i

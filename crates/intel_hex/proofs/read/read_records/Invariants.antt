@@ -1,12 +1,8 @@
 use Prim.Native.Nat.{◌+◌, ◌-◌, ◌≤◌}
-use mathlib.Core.Path.{◌≡◌, refl, sym, ◌∙◌, ap}
-use native.Mathlib.Omega.{arith}
+use mathlib.Core.Path.{◌≡◌}
 use lib.ListN.{length, drop}
-use lib.Dec.{eqb}
-use Rattle.text.specs.declared.Outcome.{Outcome}
 use Rattle.intel_hex.specs.Reading.{record_lines, records_outcome, put_records}
-use Rattle.intel_hex.proofs.OutcomeLaws.{told, told_is}
-use Rattle.intel_hex.proofs.TurnLaws.{told_past, turn_stop, turn_next}
+use Rattle.intel_hex.proofs.OutcomeLaws.{told}
 use Rattle.intel_hex.proofs.read.read_records.Given as goal
 
 abbrev pub invariant-loop-at : goal.invariant-loop-at

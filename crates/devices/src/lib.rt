@@ -11,7 +11,7 @@ pub mod sound;
 pub mod timer;
 
 // The disk's part of a record: cycles to go, and the sector and buffer taken at acceptance. All zero while the disk is free.
-#[derive(Drop)]
+#[derive(Clone, Copy)]
 pub struct Drive {
     pub left: u32,
     pub sector: u32,

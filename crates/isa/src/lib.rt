@@ -6,7 +6,7 @@ pub mod opcodes;
 pub mod word;
 
 // The fields of an instruction word, as numbers.
-#[derive(Drop)]
+#[derive(Clone, Copy)]
 pub struct Fields {
     pub op: u32,
     pub rd: usize,

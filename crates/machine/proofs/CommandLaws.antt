@@ -1,14 +1,13 @@
 -- A disk command of this computer over its 1,024 cycles. Assumes nothing.
 use Prim.Native.Nat.{ℕ, zero, suc, ◌+◌, ◌*◌, ◌^◌, ◌-◌, ◌%◌, ◌≤◌, ◌<◌}
-use mathlib.Core.Path.{◌≡◌, refl, sym, ◌∙◌, ap, subst}
+use mathlib.Core.Path.{◌≡◌, sym, subst}
 use mathlib.Core.Bool.{Bool, true}
 use mathlib.Core.List.{List}
 use native.Mathlib.Omega.{arith}
-use Rattle.devices.specs.declared.Drive.{Drive}
 use Rattle.devices.specs.Bus.{Bus}
 use Rattle.devices.specs.Transfer.{Cycled, Busy, GotFree, NoWord, WordMoved}
 use Rattle.devices.proofs.CommandLaws.{busy-at as busy-at-any, free-at as free-at-any, word_moves as word-moves-any, no_other as no-other-any, none_in_c as none_any}
-use Rattle.isa.specs.Registers.{diskcmd, disksector, diskbuffer}
+use Rattle.isa.specs.Registers.{disksector, diskbuffer}
 use Rattle.machine.specs.State.{Machine, bus_of, io_at}
 use Rattle.machine.specs.Execution.{fetched_and_executed}
 use Rattle.machine.specs.Cycle.{accepts_at_fetch, command_at_fetch, at_fetch, stepped}

@@ -1,10 +1,10 @@
 -- What no instruction changes while the disk is busy, and what a command that is accepted takes. Assumes nothing.
-use Prim.Native.Nat.{ℕ, ◌%◌, ◌<◌}
+use Prim.Native.Nat.{ℕ, ◌%◌}
 use mathlib.Core.Path.{◌≡◌, refl, sym, ◌∙◌, ap}
 use mathlib.Core.Bool.{Bool, true, false, ◌&&◌, false≢true}
 use mathlib.Core.List.{List}
 use native.Mathlib.Omega.{arith}
-use lib.Dec.{eqb, leb, ltb}
+use lib.Dec.{eqb, ltb}
 use lib.ListN.{get_or, set}
 use lib.Seq.{get_or-set_other}
 use borrow.Author.Tests.{eqb-true, eqb-false}
@@ -16,7 +16,7 @@ use Rattle.isa.specs.Word.{fields_of}
 use Rattle.isa.specs.Operations.{Operation, operation_of, calculate, branch, jal, lw, sw, reti, input, output, halt, unknown}
 use Rattle.isa.specs.Registers.{is_listed, io_bits, irq2status, irqreturn, diskcmd, diskstatus, monitorcmd}
 use Rattle.words.specs.Words.{holds}
-use Rattle.machine.specs.State.{Machine, bus_of, io_at, put_io}
+use Rattle.machine.specs.State.{Machine, bus_of, put_io}
 use Rattle.machine.specs.Interrupts.{is_requested, irq2_raised, interrupted}
 use Rattle.machine.specs.declared.Operands.{Operands}
 use Rattle.machine.specs.Execution.{fetched, operands_of, address, onward, commanded, painted, outputted, executed, fetched_and_executed}

@@ -5,7 +5,7 @@ use mathlib.Core.Bool.{Bool, true, false, cond, ◌&&◌}
 use mathlib.Core.List.{List}
 use native.Mathlib.Nat.{lt_of_lt_of_le, not-suc-le-zero, one-le-pow}
 use native.Mathlib.Omega.{arith}
-use lib.ListN.{length, get_or, set, replicate, length-set}
+use lib.ListN.{length, get_or, set, replicate}
 use lib.Dec.{eqb, ltb}
 use borrow.Author.Tests.{eqb-true, eqb-false, ltb-true, ltb-false}
 use Rattle.isa.specs.Operations.{Operation, operation_of, calculate, branch, jal, lw, sw, reti, input, output, halt, unknown}
@@ -22,7 +22,7 @@ use Rattle.words.specs.Words.{holds}
 use Rattle.machine.specs.State.{Machine, bus_of, fresh_core, registers, put_register, io_at, put_io, with_pc, with_status, with_handler, with_drive, with_regs, with_io}
 use Rattle.machine.specs.Interrupts.{is_requested, irq2_raised, interrupted}
 use Rattle.machine.specs.declared.Operands.{Operands}
-use Rattle.machine.specs.Execution.{fetched, operands_of, address, onward, jumped, ended, commanded, painted, outputted, executed, fetched_and_executed}
+use Rattle.machine.specs.Execution.{fetched, operands_of, address, onward, jumped, commanded, painted, outputted, executed, fetched_and_executed}
 use Rattle.machine.specs.Cycle.{accepts_at_fetch, command_at_fetch, at_fetch, finished, stepped}
 use Rattle.machine.specs.Soundness.{field_bits, SoundTo, Sound}
 use Rattle.words.proofs.FitLaws.{wrapped, calculated_lt}

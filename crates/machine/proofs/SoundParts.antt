@@ -1,13 +1,13 @@
 -- Parts of a sound record that change and leave it sound. Assumes nothing.
 use Prim.Native.Nat.{ℕ, ◌+◌, ◌-◌, ◌^◌, ◌≤◌, ◌<◌}
-use mathlib.Core.Path.{◌≡◌, refl, sym, ◌∙◌}
+use mathlib.Core.Path.{◌≡◌, refl, ◌∙◌}
 use mathlib.Core.Bool.{Bool, true, false, cond}
 use mathlib.Core.List.{List}
 use native.Mathlib.Nat.{pow-le-pow_right}
 use native.Mathlib.Omega.{arith}
-use lib.ListN.{length, get_or, set, length-set}
+use lib.ListN.{set, length-set}
 use lib.Dec.{eqb, leb, ltb}
-use borrow.Author.Tests.{eqb-true, eqb-false, leb-true, leb-false, ltb-true, ltb-false}
+use borrow.Author.Tests.{leb-true, leb-false}
 use Rattle.text.proofs.Truth.{below}
 use Rattle.text.proofs.RangeLaws.{holds_after}
 use Rattle.isa.specs.Registers.{io_bits, diskcmd, diskstatus, monitorcmd}
@@ -15,7 +15,6 @@ use Rattle.isa.specs.Word.{sign_extended}
 use Rattle.isa.proofs.IoLaws.{no_bits-above}
 use Rattle.devices.proofs.SoundLaws.{sound-set as sound-other}
 use Rattle.machine.specs.declared.Core.{Core}
-use Rattle.machine.specs.State.{registers}
 use Rattle.machine.specs.Soundness.{field_bits, SoundCore, SoundTo}
 
 -- ---- one I/O register set

@@ -1,11 +1,12 @@
 // The record of the machine, and what an instruction works on. What a cycle does with them stands in specs/.
+#![tactic(auto)]
 
 use devices::Drive;
 
 pub mod scalars;
 
 // The record's scalars: status, handler flag, PC, age (cycles done) and the disk's part.
-#[derive(Drop)]
+#[derive(Clone, Copy)]
 pub struct Core {
     pub status: u32,
     pub handler: u32,
@@ -23,7 +24,7 @@ pub struct Record {
 }
 
 // What an instruction works on: R[rs], R[rt], R[rm] and R[rd] before execution, and the number of rd.
-#[derive(Drop)]
+#[derive(Clone, Copy)]
 pub struct Operands {
     pub rs: u32,
     pub rt: u32,

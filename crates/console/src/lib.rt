@@ -27,7 +27,8 @@ pub use refusal::say_refusal;
 pub use standard::open_missing_standard_streams;
 use std::fs::File;
 pub use write::{
-    abandon_file, begin_file, commit_file, drop_file, end_file, is_no_file, write_new_file,
+    abandon_file, begin_file, commit_file, drop_file, end_file, is_no_file, write_more,
+    write_new_file,
 };
 
 // A file that is being written.

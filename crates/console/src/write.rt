@@ -11,6 +11,10 @@ use crate::output::say_of;
 use crate::path::{PATH, put_new_path};
 use std::fs::File;
 use std::io::{Error, ErrorKind, Write};
+
+// What the system says of a descriptor that is not open.
+const EBADF: i32 = 9;
+
 use std::{fs, io};
 
 // Writes all of a new file, which `commit_file` puts into the place of the old one, or `drop_file` removes. Where it can't be written, the old one stays, standard error
@@ -19,7 +23,10 @@ pub fn write_new_file(rt: HostRuntime, path: &[u8], bytes: &[u8]) -> Writing
     ensures { Begun result }
 {
     let w = begin_file(rt, path);
-    match write_into(&w, bytes) {
+    if is_no_file(&w) {
+        return w;
+    }
+    match write_more(&w, bytes) {
         Ok(()) => end_file(rt, path, w),
         Err(error) => {
             let failed = not_written(rt, path, path, error);
@@ -29,11 +36,11 @@ pub fn write_new_file(rt: HostRuntime, path: &[u8], bytes: &[u8]) -> Writing
     }
 }
 
-// Writes bytes to a file that is begun; to one that can't be written nothing.
-fn write_into(w: &Writing, bytes: &[u8]) -> io::Result<()> {
+// Writes bytes to the end of a file that is begun. One that can't be written is no open file.
+pub fn write_more(w: &Writing, bytes: &[u8]) -> io::Result<()> {
     match &w.file {
         Some(file) => write_bytes(file, bytes),
-        None => Ok(()),
+        None => Err(Error::from_raw_os_error(EBADF)),
     }
 }
 

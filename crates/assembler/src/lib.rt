@@ -1,4 +1,6 @@
 // The assembler: assembly text into the instruction image and the data memory. What it answers and what a good text gives stand in specs/.
+#![tactic(auto)]
+
 mod answers;
 mod calls;
 mod translate;

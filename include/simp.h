@@ -1,4 +1,4 @@
-/* The SIMP lab from C. Link with libsimp.a, which `rt staticlib simp` makes.
+/* The SIMP lab from C. Link with libsimp.a, which `tools/staticlib simp` makes.
  *
  * Every function returns 0 where it accepts, or the number of the question that it answers with no:
  *

@@ -1,4 +1,4 @@
-//! Links the archive that `rt staticlib simp` writes.
+//! Links the archive that `tools/staticlib simp` writes.
 
 fn main() {
     let archive = concat!(env!("CARGO_MANIFEST_DIR"), "/../../target/staticlib");

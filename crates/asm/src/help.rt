@@ -1,11 +1,11 @@
 // The help text. It is put together first, so that it is written at once.
 ghost use Rattle.std.specs.Prelude.{◌≤◌, length};
-ghost use Rattle.io.specs.Counts.{IsPrefixLen};
+ghost use Rattle.console.specs.Counts.{IsPrefixLen};
 
 use console::{LINE, put_if_room, say};
 
 // Prints what the program does and the forms of lines that it reads.
-pub fn print_help() {
+pub fn print_help(rt: HostRuntime) {
     let mut text = [0u8; LINE];
     let mut at = put_files(&mut text, 0);
     at = put_lines(&mut text, at);
@@ -15,7 +15,7 @@ pub fn print_help() {
         at,
         b"A program that is refused writes nothing: one line tells what is wrong, and where.\n",
     );
-    say(&text[..at]);
+    say(rt, &text[..at]);
 }
 
 // Puts what the program does and its files at a place of the text and returns the place after it.

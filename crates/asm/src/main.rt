@@ -3,15 +3,15 @@ mod help;
 
 use crate::help::print_help;
 use commands::assemble_file;
-use console::{are_names, open_missing_standard_streams};
+use console::{are_names, argument_count, open_missing_standard_streams};
 
-fn main() {
-    open_missing_standard_streams();
-    if os::arg_count() != 4 {
-        print_help();
+fn main(rt: HostRuntime) {
+    open_missing_standard_streams(rt);
+    if argument_count(rt) != 4 {
+        print_help(rt);
         return;
     }
-    if are_names(1, 3) {
-        assemble_file(1);
+    if are_names(rt, 1, 3) {
+        assemble_file(rt, 1);
     }
 }

@@ -1,4 +1,6 @@
 // The assembler: assembly text into the instruction image and the data memory. What it answers and what a good text gives stand in specs/.
+#![tactic(auto)]
+
 mod answers;
 mod calls;
 mod translate;
@@ -6,7 +8,7 @@ mod translate;
 pub use calls::assemble;
 
 // What assembling answers. Places are lines, from 1.
-#[derive(Drop)]
+#[derive(Clone, Copy)]
 pub enum Assembled {
     // The image and the data memory are set.
     Done,
@@ -29,14 +31,14 @@ pub enum Assembled {
 }
 
 // The first question that a line of a text got a no to, and the line; both are 0 where there is none.
-#[derive(Drop)]
+#[derive(Clone, Copy)]
 pub struct Refusal {
     pub number: u32,
     pub line: usize,
 }
 
 // What both passes find: whether the table had room for all labels of the text; if so, the refusal.
-#[derive(Drop)]
+#[derive(Clone, Copy)]
 pub struct BothPasses {
     pub whole: bool,
     pub refusal: Refusal,

@@ -1,5 +1,7 @@
 // Values of given widths packed into bytes, most significant first, and taken out again. The widths are a list lent by the caller, who shows what
 // packing asks: no call is refused.
+#![tactic(auto)]
+
 pub mod bits;
 mod fitting;
 mod packing;

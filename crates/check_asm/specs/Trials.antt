@@ -1,6 +1,6 @@
 -- What is asked of memories after a trial.
 use Rattle.std.specs.Prelude.{ℕ, ◌≡◌, Bool, ◌&&◌, List, eqb, length, replicate}
-use Rattle.io.specs.Counts.{IsPrefixLen}
+use Rattle.console.specs.Counts.{IsPrefixLen}
 use Rattle.text.specs.Questions.{unless_refused}
 use Rattle.text.specs.Place.{put}
 use Rattle.text.specs.Same.{same}

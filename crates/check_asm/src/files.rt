@@ -1,4 +1,5 @@
 // Texts in files.
+use console::{NAME, argument, open_read, read_full};
 use crate::print::print_missing;
 use crate::trial::try_text;
 
@@ -6,21 +7,19 @@ use crate::trial::try_text;
 const FRONT: usize = 262_145;
 
 // Tries the file that an argument names.
-pub fn try_argument(i: usize) {
-    let mut name = io::buffer();
-    let n = os::arg(i, &mut name);
-    try_file(&name[..n]);
+pub fn try_argument(rt: HostRuntime, i: usize) {
+    let mut name = [0u8; NAME];
+    let n = argument(rt, i, &mut name);
+    try_file(rt, &name[..n]);
 }
 
 // Tries a file.
-fn try_file(name: &[u8]) {
-    let fd = os::open_read(name);
-    if fd < 0 {
-        print_missing(name);
+fn try_file(rt: HostRuntime, name: &[u8]) {
+    let Ok(mut file) = open_read(rt, name) else {
+        print_missing(rt, name);
         return;
-    }
+    };
     let mut text = [0u8; FRONT];
-    let n = io::read_full(fd, &mut text);
-    libc::close(fd);
-    try_text(name, &text[..n]);
+    let n = read_full(&mut file, &mut text);
+    try_text(rt, name, &text[..n]);
 }

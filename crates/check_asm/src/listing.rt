@@ -11,11 +11,11 @@ use lister::{list, used_words};
 const ROOM: usize = 188_416;
 
 // Prints whether an image comes back from the listing of its words up to the last that is not zero in its low 48 bits.
-pub fn print_listed(image: &[u64]) {
+pub fn print_listed(rt: HostRuntime, image: &[u64]) {
     let mut text = [0u8; ROOM];
     let n = used_words(image);
     let count = list_words(&image[..n], &mut text);
-    print_returned(is_image_of(&text[..count], image));
+    print_returned(rt, is_image_of(&text[..count], image));
 }
 
 // Lists words and returns how many bytes of text there are; 0 where they are refused.

@@ -19,19 +19,20 @@ mod memories;
 mod print;
 mod trial;
 
+use console::argument_count;
 use crate::built::try_built;
 use crate::files::try_argument;
 use crate::lister_points::try_lister;
 use crate::trial::try_lengths;
 
-fn main() {
-    let count = os::arg_count();
+fn main(rt: HostRuntime) {
+    let count = argument_count(rt);
     let mut i = 1;
     while i < count {
-        try_argument(i);
+        try_argument(rt, i);
         i += 1;
     }
-    try_built();
-    try_lengths();
-    try_lister();
+    try_built(rt);
+    try_lengths(rt);
+    try_lister(rt);
 }

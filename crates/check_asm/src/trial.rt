@@ -13,34 +13,34 @@ const IMAGE_PATTERN: u64 = 0xA5A5_A5A5_A5A5_A5A5;
 const DATA_PATTERN: u32 = 0xA5A5_A5A5;
 
 // Assembles a text and prints its name and what the assembler answers and leaves.
-pub fn try_text(name: &[u8], text: &[u8]) {
+pub fn try_text(rt: HostRuntime, name: &[u8], text: &[u8]) {
     let mut image = [IMAGE_PATTERN; 4096];
     let mut memory = [DATA_PATTERN; 4096];
     let answer = assemble(text, &mut image, &mut memory).outcome();
     if answer.number != 0 {
-        print_refused(name, answer, is_kept(&image, &memory));
+        print_refused(rt, name, answer, is_kept(&image, &memory));
         return;
     }
-    print_accepted(name);
-    print_image(&image);
-    print_data(&memory);
-    print_listed(&image);
+    print_accepted(rt, name);
+    print_image(rt, &image);
+    print_data(rt, &memory);
+    print_listed(rt, &image);
 }
 
 // Question 1 of the lent memories: an image of 4,095 words, and a data memory of 4,097.
-pub fn try_lengths() {
+pub fn try_lengths(rt: HostRuntime) {
     let mut image = [IMAGE_PATTERN; 4096];
     let mut memory = [DATA_PATTERN; 4096];
     let mut short_image = [IMAGE_PATTERN; 4095];
     let mut long_memory = [DATA_PATTERN; 4097];
     let first = assemble(b"", &mut short_image, &mut memory).outcome();
-    print_refused(
+    print_refused(rt,
         b"lengths_short_image",
         first,
         is_kept(&short_image, &memory),
     );
     let second = assemble(b"", &mut image, &mut long_memory).outcome();
-    print_refused(
+    print_refused(rt,
         b"lengths_long_memory",
         second,
         is_kept(&image, &long_memory),

@@ -17,7 +17,7 @@ ghost use Rattle.std.specs.Prelude.{◌+◌, ◌^◌, ◌<◌};
 use crate::compare::compare_files;
 use crate::steps::{key_of, say_step, words_of};
 use commands::{assemble_file, draw_frame, list_file, show_record};
-use console::{open_missing_standard_streams, say_refusal};
+use console::{NAME, argument, argument_count, open_missing_standard_streams, say_refusal};
 use hex_commands::{conversion_at, convert};
 use memories::{Count, read_budget};
 use run_commands::{resume, simulate};
@@ -25,67 +25,67 @@ use run_commands::{resume, simulate};
 // More arguments than the steps have.
 const MOST: usize = 65_536;
 
-fn main() {
-    open_missing_standard_streams();
-    let count = os::arg_count();
+fn main(rt: HostRuntime) {
+    open_missing_standard_streams(rt);
+    let count = argument_count(rt);
     if MOST < count {
         return;
     }
     let mut left = count;
     let mut i = 1;
     while 1 < left {
-        let key = key_at(i);
+        let key = key_at(rt, i);
         let words = words_of(key);
         if left <= words {
             return;
         }
-        say_step(i, words);
-        run_step(key, i);
+        say_step(rt, i, words);
+        run_step(rt, key, i);
         left -= words;
         i += words;
     }
 }
 
 // The key of the step at an argument.
-fn key_at(i: usize) -> u8 {
-    let mut word = io::buffer();
-    os::arg(i, &mut word);
+fn key_at(rt: HostRuntime, i: usize) -> u8 {
+    let mut word = [0u8; NAME];
+    argument(rt, i, &mut word);
     key_of(&word)
 }
 
 // Runs the step at an argument, by its key.
-fn run_step(key: u8, i: usize)
+fn run_step(rt: HostRuntime, key: u8, i: usize)
     requires { i + 16 < 2 ^ 64 }
 {
     match key {
-        b'a' => assemble_file(i + 1),
-        b'l' => list_file(i + 1),
-        b'm' => simulate_step(i),
-        b'r' => resume(i + 1),
-        b'o' => show_record(i + 1),
-        b'p' => draw_frame(i + 1),
-        b'h' => convert(conversion_at(i + 1), i + 3),
-        b'e' => compare_files(i + 1, i + 2),
-        _ => say_refusals(),
+        b'a' => assemble_file(rt, i + 1),
+        b'l' => list_file(rt, i + 1),
+        b'm' => simulate_step(rt, i),
+        b'r' => resume(rt, i + 1),
+        b'o' => show_record(rt, i + 1),
+        b'p' => draw_frame(rt, i + 1),
+        b'h' => convert(rt, conversion_at(rt, i + 1), i + 3),
+        b'e' => compare_files(rt, i + 1, i + 2),
+        _ => say_refusals(rt),
     }
 }
 
 // Runs a step of the command sim.
-fn simulate_step(i: usize)
+fn simulate_step(rt: HostRuntime, i: usize)
     requires { i + 16 < 2 ^ 64 }
 {
-    if let Count::Of(budget) = read_budget(i + 15) {
-        simulate(i + 1, budget as u64);
+    if let Count::Of(budget) = read_budget(rt, i + 15) {
+        simulate(rt, i + 1, budget as u64);
     }
 }
 
 // Says each refusal.
-fn say_refusals() {
+fn say_refusals(rt: HostRuntime) {
     let mut number = 0;
     while number < 22 {
-        say_refusal(b"file", number, 7);
+        say_refusal(rt, b"file", number, 7);
         number += 1;
     }
-    say_refusal(b"file", 12, 0);
-    say_refusal(b"file", 16, 0);
+    say_refusal(rt, b"file", 12, 0);
+    say_refusal(rt, b"file", 16, 0);
 }

@@ -4,13 +4,14 @@ ghost use Rattle.files.specs.Loaded.{AreCycles};
 ghost use Rattle.files.specs.Loaded.{FileLoaded, CyclesLoaded};
 ghost use Rattle.check_examples.specs.Memories.{MemoriesLoaded};
 
+use console::NAME;
 use crate::open::file_path;
 use files::{read_data, read_disk, read_image, read_irq2};
 use memories::FileLoad;
 use text::Outcome;
 
 // Reads the instruction file, the file of data and the file of the disk, up to the first that is refused.
-pub fn load_memories(
+pub fn load_memories(rt: HostRuntime,
     folder: &[u8],
     image: &mut [u64; 4096],
     memory: &mut [u32; 4096],
@@ -18,60 +19,60 @@ pub fn load_memories(
 ) -> Outcome
     ensures { MemoriesLoaded result (record { image = image.entry.now; memory = memory.old; disk = disk.old }) (record { image = image.exit.now; memory = memory.new; disk = disk.new }) }
 {
-    let outcome = load_image(folder, image);
+    let outcome = load_image(rt, folder, image);
     if outcome.number != 0 {
         return outcome;
     }
-    let next = load_data(folder, memory);
+    let next = load_data(rt, folder, memory);
     if next.number != 0 {
         return next;
     }
-    load_disk(folder, disk)
+    load_disk(rt, folder, disk)
 }
 
 // Reads the instruction file.
-fn load_image(folder: &[u8], image: &mut [u64; 4096]) -> Outcome
+fn load_image(rt: HostRuntime, folder: &[u8], image: &mut [u64; 4096]) -> Outcome
     ensures { FileLoaded image_digits is_image_length result image.old image.new }
 {
-    let mut path = io::buffer();
-    let n = file_path(folder, b"imemin.txt", &mut path);
-    if let FileLoad::Read(outcome) = memories::load_image(&path[..n], image) {
+    let mut path = [0u8; NAME];
+    let n = file_path(rt, folder, b"imemin.txt", &mut path);
+    if let FileLoad::Read(outcome) = memories::load_image(rt, &path[..n], image) {
         return outcome;
     }
     read_image(b"", image).outcome()
 }
 
 // Reads the file of data.
-fn load_data(folder: &[u8], memory: &mut [u32; 4096]) -> Outcome
+fn load_data(rt: HostRuntime, folder: &[u8], memory: &mut [u32; 4096]) -> Outcome
     ensures { FileLoaded word_digits is_data_length result memory.old memory.new }
 {
-    let mut path = io::buffer();
-    let n = file_path(folder, b"dmemin.txt", &mut path);
-    if let FileLoad::Read(outcome) = memories::load_data(&path[..n], memory) {
+    let mut path = [0u8; NAME];
+    let n = file_path(rt, folder, b"dmemin.txt", &mut path);
+    if let FileLoad::Read(outcome) = memories::load_data(rt, &path[..n], memory) {
         return outcome;
     }
     read_data(b"", memory).outcome()
 }
 
 // Reads the file of the whole disk.
-fn load_disk(folder: &[u8], disk: &mut [u32; 16384]) -> Outcome
+fn load_disk(rt: HostRuntime, folder: &[u8], disk: &mut [u32; 16384]) -> Outcome
     ensures { FileLoaded word_digits is_part_length result disk.old disk.new }
 {
-    let mut path = io::buffer();
-    let n = file_path(folder, b"diskin.txt", &mut path);
-    if let FileLoad::Read(outcome) = memories::load_disk(&path[..n], disk) {
+    let mut path = [0u8; NAME];
+    let n = file_path(rt, folder, b"diskin.txt", &mut path);
+    if let FileLoad::Read(outcome) = memories::load_disk(rt, &path[..n], disk) {
         return outcome;
     }
     read_disk(b"", disk).outcome()
 }
 
 // Reads the irq2 file, of up to 4,096 cycles. They stand at the front then, and rise.
-pub fn load_irq2(folder: &[u8], cycles: &mut [u64; 4096]) -> Outcome
+pub fn load_irq2(rt: HostRuntime, folder: &[u8], cycles: &mut [u64; 4096]) -> Outcome
     ensures { AreCycles result cycles.new × CyclesLoaded result cycles.old cycles.new }
 {
-    let mut path = io::buffer();
-    let n = file_path(folder, b"irq2in.txt", &mut path);
-    if let FileLoad::Read(outcome) = memories::load_irq2(&path[..n], cycles) {
+    let mut path = [0u8; NAME];
+    let n = file_path(rt, folder, b"irq2in.txt", &mut path);
+    if let FileLoad::Read(outcome) = memories::load_irq2(rt, &path[..n], cycles) {
         return outcome;
     }
     read_irq2(b"", cycles).outcome()

@@ -3,54 +3,54 @@
 mod load;
 mod open;
 
+use console::{NAME, argument, argument_count};
 use crate::load::{load_irq2, load_memories};
-use libc::STDOUT_FILENO;
 use long_run::{print_line_e, print_line_n, run_budget};
 
-fn main() {
-    let count = os::arg_count();
+fn main(rt: HostRuntime) {
+    let count = argument_count(rt);
     let mut i = 1;
     while i < count {
-        run_argument(i);
+        run_argument(rt, i);
         i += 1;
     }
 }
 
 // Runs the folder that an argument names.
-fn run_argument(i: usize) {
-    let mut name = io::buffer();
-    let n = os::arg(i, &mut name);
-    print_name(&name[..n]);
-    run_folder(&name[..n]);
+fn run_argument(rt: HostRuntime, i: usize) {
+    let mut name = [0u8; NAME];
+    let n = argument(rt, i, &mut name);
+    print_name(rt, &name[..n]);
+    run_folder(rt, &name[..n]);
 }
 
 // Prints the line that stands before a folder's log.
-fn print_name(name: &[u8]) {
-    io::write_all(STDOUT_FILENO, b"= ");
-    io::write_all(STDOUT_FILENO, name);
-    io::write_all(STDOUT_FILENO, b"\n");
+fn print_name(rt: HostRuntime, name: &[u8]) {
+    let _ = rt.write_all(b"= ");
+    let _ = rt.write_all(name);
+    let _ = rt.write_all(b"\n");
 }
 
 // Runs a folder's files and prints the log and the line E, or the line N of the first file that is refused.
-fn run_folder(folder: &[u8]) {
+fn run_folder(rt: HostRuntime, folder: &[u8]) {
     let mut image = [0u64; 4096];
     let mut memory = [0u32; 4096];
     let mut disk = [0u32; 16384];
-    let outcome = load_memories(folder, &mut image, &mut memory, &mut disk);
+    let outcome = load_memories(rt, folder, &mut image, &mut memory, &mut disk);
     if outcome.number != 0 {
-        print_line_n(outcome.number, outcome.place);
+        print_line_n(rt, outcome.number, outcome.place);
         return;
     }
     let mut cycles = [0u64; 4096];
-    let irq2 = load_irq2(folder, &mut cycles);
+    let irq2 = load_irq2(rt, folder, &mut cycles);
     if irq2.number != 0 {
-        print_line_n(irq2.number, irq2.place);
+        print_line_n(rt, irq2.number, irq2.place);
         return;
     }
     let count = irq2.count;
     let mut frame = [0u8; 65536];
-    let end = run_budget(&image, &mut memory, &mut disk, &mut frame, &cycles[..count]);
+    let end = run_budget(rt, &image, &mut memory, &mut disk, &mut frame, &cycles[..count]);
     if end.written {
-        print_line_e(end.state.core.status, end.state.core.age);
+        print_line_e(rt, end.state.core.status, end.state.core.age);
     }
 }

@@ -1,17 +1,17 @@
 // The files of a folder.
 ghost use Rattle.std.specs.Prelude.{◌≤◌, length};
-ghost use Rattle.io.specs.Counts.{IsPrefixLen};
+ghost use Rattle.console.specs.Counts.{IsPrefixLen};
 
 use console::is_missing;
 use text::place::put_bytes;
 
 // Puts the path of a file in a folder at the front and returns its length. A file that is missing counts as empty: the path is that of an empty one.
-pub fn file_path(folder: &[u8], file: &[u8], path: &mut [u8]) -> usize
+pub fn file_path(rt: HostRuntime, folder: &[u8], file: &[u8], path: &mut [u8]) -> usize
     requires { 9 ≤ length path.old }
     ensures { IsPrefixLen result path.new }
 {
     let n = put_path(folder, file, path);
-    if is_missing(&path[..n]) {
+    if is_missing(rt, &path[..n]) {
         return put_bytes(path, 0, b"/dev/null");
     }
     n

@@ -2,74 +2,85 @@
 use crate::say::{end, say, show};
 use files::{read_data, read_disk, read_frame, read_image, write_data, write_frame, write_image};
 
-pub fn lengths() {
-    image();
-    short_image();
-    words();
-    frame();
-    part();
+pub fn lengths(rt: HostRuntime) {
+    image(rt);
+    short_image(rt);
+    words(rt);
+    frame(rt);
+    part(rt);
 }
 
 // An image word's bits above 47 are not written, and are zero when it is read.
-fn image() {
+fn image(rt: HostRuntime) {
     let image = [0xFFFF_8000_0000_0001u64; 4096];
     let mut text = [b'.'; 53249];
     say(
+        rt,
         b"F12 image written",
         write_image(&image, &mut text).outcome(),
     );
-    end();
-    read_back(&text);
+    end(rt);
+    read_back(rt, &text);
 }
 
-fn read_back(text: &[u8]) {
+fn read_back(rt: HostRuntime, text: &[u8]) {
     if text.len() < 53248 {
         return;
     }
     let mut image = [7u64; 4096];
     say(
+        rt,
         b"F11 image back",
         read_image(&text[0..53248], &mut image).outcome(),
     );
-    show_image(image);
+    show_image(rt, image);
 }
 
-fn show_image(image: [u64; 4096]) {
-    show(image[0]);
-    show(image[4095]);
-    end();
+fn show_image(rt: HostRuntime, image: [u64; 4096]) {
+    show(rt, image[0]);
+    show(rt, image[4095]);
+    end(rt);
 }
 
-fn short_image() {
+fn short_image(rt: HostRuntime) {
     let mut image = [0u64; 4095];
-    say(b"F12 image", read_image(b"", &mut image).outcome());
-    end();
+    say(rt, b"F12 image", read_image(b"", &mut image).outcome());
+    end(rt);
 }
 
-fn words() {
+fn words(rt: HostRuntime) {
     let mut memory = [0u32; 4224];
-    say(b"F12 data", read_data(b"", &mut memory).outcome());
-    end();
-    say(b"F13 33 sectors", read_disk(b"", &mut memory).outcome());
-    end();
+    say(rt, b"F12 data", read_data(b"", &mut memory).outcome());
+    end(rt);
+    say(rt, b"F13 33 sectors", read_disk(b"", &mut memory).outcome());
+    end(rt);
     let mut text = [b'.'; 8];
     say(
+        rt,
         b"F12 data written",
         write_data(&memory, &mut text).outcome(),
     );
-    end();
+    end(rt);
 }
 
-fn frame() {
+fn frame(rt: HostRuntime) {
     let mut frame = [0u8; 65535];
-    say(b"F12 frame", read_frame(b"", &mut frame).outcome());
-    end();
-    say(b"F12 frame written", write_frame(b"", &mut frame).outcome());
-    end();
+    say(rt, b"F12 frame", read_frame(b"", &mut frame).outcome());
+    end(rt);
+    say(
+        rt,
+        b"F12 frame written",
+        write_frame(b"", &mut frame).outcome(),
+    );
+    end(rt);
 }
 
-fn part() {
+fn part(rt: HostRuntime) {
     let mut part = [0u32; 100];
-    say(b"F13 no whole sector", read_disk(b"", &mut part).outcome());
-    end();
+    say(
+        rt,
+        b"F13 no whole sector",
+        read_disk(b"", &mut part).outcome(),
+    );
+    end(rt);
 }

@@ -256,7 +256,7 @@ module _ (L : Lab) (laws : Laws L) (irqs : L.Irqs) where
     rest m w good agrees [] = record { ends = rw add-zero agrees; logs = refl; made = λ i h. absurd (omega arith); each = end }
     rest m w good agrees (c ∷ cs) =
         let one = step m w good agrees c in
-        and-rest m w c cs _ _ one (rest _ _ one.good one.agrees cs)
+        and-rest m w c cs _ _ one (rest (m + (call L irqs w c).cycles) (standing L w c (call L irqs w c)) one.good one.agrees cs)
 
     -- ---- the disk
 

@@ -1,6 +1,6 @@
 -- The calls that a list may hold, and what each does. run's contract cites `run_call`; the definitions that the contracts of save, write and read
 -- cite are named by the lab.
-use Rattle.std.specs.Prelude.{ℕ, zero, suc, ◌+◌, ◌-◌, ◌≡◌, Bool, true, cond, List, [], ◌∷◌, ◌++◌, length, take, drop, ltb}
+use Rattle.std.specs.Prelude.{ℕ, zero, suc, ◌+◌, ◌-◌, ◌≡◌, Bool, cond, List, [], ◌∷◌, ◌++◌, length, take, drop, ltb}
 use Rattle.text.specs.declared.Outcome.{Outcome}
 use Rattle.text.specs.Questions.{Question, accepted, first_no, unless_refused}
 use Rattle.claim.specs.Plain.{Machine}

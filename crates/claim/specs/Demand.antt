@@ -1,5 +1,5 @@
 -- Demand 3: "Demand 3 is a single claim about the whole list, not one for each call."
-use Rattle.std.specs.Prelude.{ℕ, ◌+◌, ◌<◌, ◌≤◌, ◌≡◌, ◌↔◌, Bool, true, false, List, [], ◌∷◌, ◌++◌, length, take, drop}
+use Rattle.std.specs.Prelude.{ℕ, ◌+◌, ◌<◌, ◌≤◌, ◌≡◌, ◌↔◌, true, false, List, [], ◌∷◌, ◌++◌, length, take, drop}
 use Rattle.text.specs.Questions.{Question}
 use Rattle.claim.specs.Plain.{after, log_after, Makes, Exact}
 use Rattle.claim.specs.Calls.{Bytes, Lab, Stands, State, Call, run, run_other, trip, trip_other, halves, Done, run_outcome, trip_outcome, call, standing, total, joined, final}

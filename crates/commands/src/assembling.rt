@@ -6,7 +6,7 @@ ghost use Rattle.commands.specs.Said.{count_pieces, NamePut, WrittenPut};
 
 use crate::instructions::count_instructions;
 use assembler::assemble;
-use console::{LINE, put_if_room, put_number, say};
+use console::{LINE, NAME, argument, put_if_room, put_number, say};
 use memories::{
     Count, commit_at, names_clash, read_front_at, refuse_at, write_new_data, write_new_image,
 };
@@ -17,30 +17,30 @@ const FRONT: usize = 262_145;
 
 // Assembles the program that the first of three arguments names and writes its instruction file and its file of data, which the others name. A
 // program that is refused writes nothing.
-pub fn assemble_file(first: usize)
+pub fn assemble_file(rt: HostRuntime, first: usize)
     requires { first + 3 < 2 ^ 64 }
 {
-    if names_clash(first, 1, 3) {
+    if names_clash(rt, first, 1, 3) {
         return;
     }
     let mut text = [0u8; FRONT];
-    if let Count::Of(n) = read_front_at(first, &mut text) {
-        assemble_text(first, &text, n);
+    if let Count::Of(n) = read_front_at(rt, first, &mut text) {
+        assemble_text(rt, first, &text, n);
     }
 }
 
 // Assembles a text of any length, of which the buffer holds the front in its first n bytes, and writes what it gives, or says why it is refused.
-fn assemble_text(first: usize, buffer: &[u8], n: usize)
+fn assemble_text(rt: HostRuntime, first: usize, buffer: &[u8], n: usize)
     requires { (first + 3 < 2 ^ 64) × (262144 < length buffer.now) × (n ≤ length buffer.now) }
 {
     let mut image = [0u64; 4096];
     let mut memory = [0u32; 4096];
     let outcome = assemble_front(buffer, n, &mut image, &mut memory);
     if outcome.number != 0 {
-        refuse_at(first, outcome.number, outcome.place);
+        refuse_at(rt, first, outcome.number, outcome.place);
         return;
     }
-    write_both(first, count_instructions(&buffer[..n]), &image, &memory);
+    write_both(rt, first, count_instructions(&buffer[..n]), &image, &memory);
 }
 
 // Assembles such a text into the memories.
@@ -52,58 +52,58 @@ fn assemble_front(buffer: &[u8], n: usize, image: &mut [u64], memory: &mut [u32]
 }
 
 // Writes the instruction file and then the file of data, and says which of them are written.
-fn write_both(first: usize, count: usize, image: &[u64], memory: &[u32])
+fn write_both(rt: HostRuntime, first: usize, count: usize, image: &[u64], memory: &[u32])
     requires { first + 3 < 2 ^ 64 }
 {
-    if !commit_at(first + 1, write_new_image(first + 1, image)) {
-        say_done(first, count, 0);
+    if !commit_at(rt, first + 1, write_new_image(rt, first + 1, image)) {
+        say_done(rt, first, count, 0);
         return;
     }
-    if !commit_at(first + 2, write_new_data(first + 2, memory)) {
-        say_done(first, count, 1);
+    if !commit_at(rt, first + 2, write_new_data(rt, first + 2, memory)) {
+        say_done(rt, first, count, 1);
         return;
     }
-    say_done(first, count, 2);
+    say_done(rt, first, count, 2);
 }
 
 // Says how many instructions a program has, and how many of the two files are written.
-fn say_done(first: usize, count: usize, written: usize)
+fn say_done(rt: HostRuntime, first: usize, count: usize, written: usize)
     requires { first + 3 < 2 ^ 64 }
 {
     let mut line = [0u8; LINE];
-    let mut at = put_argument(&mut line, 0, first);
+    let mut at = put_argument(rt, &mut line, 0, first);
     at = put_if_room(&mut line, at, b": ");
     at = put_count(&mut line, at, count);
-    at = put_written(&mut line, at, first, written);
-    say(&line[..at]);
+    at = put_written(rt, &mut line, at, first, written);
+    say(rt, &line[..at]);
 }
 
 // Puts which of the two files are written at a place of a line and returns the place after it.
-fn put_written(line: &mut [u8], at: usize, first: usize, written: usize) -> usize
+fn put_written(rt: HostRuntime, line: &mut [u8], at: usize, first: usize, written: usize) -> usize
     requires { (first + 3 < 2 ^ 64) × (at ≤ length line.old) }
     ensures { WrittenPut written line.old at line.new result }
 {
     if written == 0 {
         return put_if_room(line, at, b"nothing is written\n");
     }
-    let words_at = put_argument(line, at, first + 1);
+    let words_at = put_argument(rt, line, at, first + 1);
     if written == 1 {
         let second_at = put_if_room(line, words_at, b" is written, ");
-        let end = put_argument(line, second_at, first + 2);
+        let end = put_argument(rt, line, second_at, first + 2);
         return put_if_room(line, end, b" is not\n");
     }
     let second_at = put_if_room(line, words_at, b" and ");
-    let end = put_argument(line, second_at, first + 2);
+    let end = put_argument(rt, line, second_at, first + 2);
     put_if_room(line, end, b" are written\n")
 }
 
 // Puts an argument at a place of a line and returns the place after it.
-pub fn put_argument(line: &mut [u8], at: usize, i: usize) -> usize
+pub fn put_argument(rt: HostRuntime, line: &mut [u8], at: usize, i: usize) -> usize
     requires { at ≤ length line.old }
     ensures { NamePut line.old at line.new result }
 {
-    let mut name = io::buffer();
-    let n = os::arg(i, &mut name);
+    let mut name = [0u8; NAME];
+    let n = argument(rt, i, &mut name);
     put_if_room(line, at, &name[..n])
 }
 

@@ -8,20 +8,20 @@ use outputs::put_picture;
 const ROOM: usize = 65_551;
 
 // Writes the frame that one argument names as a picture that the next names.
-pub fn draw_frame(monitor: usize)
+pub fn draw_frame(rt: HostRuntime, monitor: usize)
     requires { monitor + 2 < 2 ^ 64 }
 {
-    if names_clash(monitor, 1, 2) {
+    if names_clash(rt, monitor, 1, 2) {
         return;
     }
     let mut frame = [0u8; 65536];
-    if !load_frame_at(monitor, &mut frame) {
+    if !load_frame_at(rt, monitor, &mut frame) {
         return;
     }
     let picture = monitor + 1;
     let mut text = [0u8; ROOM];
     let n = put_picture(&frame, &mut text);
-    if commit_at(picture, write_new_bytes(picture, &text[..n])) {
-        say_at(picture, b" is written: 256 by 256 pixels\n");
+    if commit_at(rt, picture, write_new_bytes(rt, picture, &text[..n])) {
+        say_at(rt, picture, b" is written: 256 by 256 pixels\n");
     }
 }

@@ -7,13 +7,13 @@ use outputs::put_record;
 const ROOM: usize = 832;
 
 // Prints the saved record that an argument names.
-pub fn show_record(i: usize) {
-    let read = load_record_at(i);
+pub fn show_record(rt: HostRuntime, i: usize) {
+    let read = load_record_at(rt, i);
     if !read.is_read {
         return;
     }
     let state = read.state;
     let mut text = [0u8; ROOM];
     let n = put_record(state, &mut text);
-    say(&text[..n]);
+    say(rt, &text[..n]);
 }

@@ -4,7 +4,7 @@ use mathlib.Core.Path.{sym}
 use mathlib.Core.List.{List}
 use lib.ListN.{length}
 use lib.Seq.{length-take-le}
-use Rattle.io.specs.Counts.{IsPrefixLen}
+use Rattle.console.specs.Counts.{IsPrefixLen}
 use Rattle.console.specs.declared.Got.{Got}
 use Rattle.console.specs.declared.Got.TheVariants.{Bytes, TooLong, Nothing}
 use Rattle.console.specs.Reading.{GotIn, EndOf}

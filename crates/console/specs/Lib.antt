@@ -1,3 +1,4 @@
+pub mod Counts
 pub mod Line
 pub mod Paths
 pub mod Reading

@@ -1,7 +1,7 @@
 -- A line that is put together from pieces.
 use Rattle.std.specs.Prelude.{ℕ, ◌+◌, ◌-◌, ◌≡◌, cond, List, [], ◌∷◌, leb, length}
 use Rattle.text.specs.Place.{put}
-use Rattle.io.specs.Counts.{IsPrefixLen}
+use Rattle.console.specs.Counts.{IsPrefixLen}
 
 -- The line's bytes, and the place where the next piece goes.
 pub record Line : Type 0 where

@@ -1,6 +1,6 @@
 -- What reading a file promises.
 use Rattle.std.specs.Prelude.{ℕ, ◌≡◌, List}
-use Rattle.io.specs.Counts.{IsPrefixLen}
+use Rattle.console.specs.Counts.{IsPrefixLen}
 use Rattle.console.specs.declared.Got.{Got}
 use Rattle.console.specs.declared.Got.TheVariants.{Bytes, TooLong, Nothing}
 

@@ -1,19 +1,20 @@
 -- Files that are being written. What the operating system answers can't be named: these say what holds whatever it answers.
-use Rattle.std.specs.Prelude.{◌≡◌, Bool, true, false, not, cond, ◌⊎◌, ℤ, pos, negsuc}
-use Rattle.std.specs.Int.Signed.{lt_z}
+use Rattle.std.specs.Prelude.{◌≡◌, Bool, true, false, not, is_none, Option, Some, None, ◌⊎◌}
+use Rattle.std.specs.declared.fs.File.{File}
 use Rattle.console.specs.declared.Writing.{Writing}
 
 -- The one answer for a file that can't be written.
 abbrev pub no_file : Writing
-no_file = record { fd = negsuc 0; is_new = false }
+no_file = record { file = None; is_new = false }
 
--- The file can't be written: its descriptor is negative.
+-- The file can't be written: there is none that is open.
 abbrev pub is_no_file : Writing → Bool
-is_no_file w = lt_z w.fd (pos 0)
+is_no_file w = is_none w.file
 
--- What stands at a path and stays there, with this descriptor.
-unfoldable pub through : ℤ → Writing
-through fd = cond (lt_z fd (pos 0)) no_file (record { fd = fd; is_new = false })
+-- What stands at a path and stays there, open as this file.
+unfoldable pub through : Option File → Writing
+through None = no_file
+through (Some f) = record { file = Some f; is_new = false }
 
 -- A file that was begun: one that can't be written is `no_file`.
 abbrev pub Begun : Writing → Type 0
@@ -24,7 +25,7 @@ pub record BegunNew (w : Writing) : Type 0 where
   pub begun : Begun w
   pub new : is_no_file w ≡ false → w.is_new ≡ true
 
--- A file that was closed: it stays what it is, or can't be written.
+-- A file that was brought to the disk: it stays what it is, or can't be written.
 abbrev pub Ended : Writing → Writing → Type 0
 Ended w r = (r ≡ w) ⊎ (r ≡ no_file)
 

@@ -1,9 +1,13 @@
-// What programs at a command line share: files read whole, files written beside the old ones and put in their places, the names of files in
-// arguments, and lines on standard output, among them one for each refusal of documents 01 and 02. A program calls `open_missing_standard_streams` first, so
+// What programs at a command line share: files read whole, files written beside the old ones and put in their places, arguments and the names of files in
+// them, and lines on standard output, among them one for each refusal of documents 01 and 02. A program calls `open_missing_standard_streams` first, so
 // that no line lands in a file.
+#![tactic(auto)]
+
 mod arguments;
+mod failure;
 mod more;
 mod old;
+mod open;
 mod output;
 mod path;
 mod read;
@@ -12,22 +16,26 @@ mod sentences;
 mod standard;
 mod write;
 
-pub use arguments::are_names;
+pub use arguments::{NAME, are_names, argument, argument_count};
+pub use failure::fail;
 pub use more::begin_more;
+pub use open::open_read;
 pub use output::{LINE, put_if_room, put_number, say, say_of, tell};
 pub use path::is_missing;
-pub use read::read_file;
+pub use read::{read_file, read_full};
 pub use refusal::say_refusal;
 pub use standard::open_missing_standard_streams;
+use std::fs::File;
 pub use write::{
-    abandon_file, begin_file, commit_file, drop_file, end_file, is_no_file, write_new_file,
+    abandon_file, begin_file, commit_file, drop_file, end_file, is_no_file, write_more,
+    write_new_file,
 };
 
 // A file that is being written.
 #[derive(Drop)]
 pub struct Writing {
-    // Its descriptor, which is open from the file's beginning to its end; negative where the file can't be written, as was said.
-    pub fd: i32,
+    // The file, which is open from its beginning until it is in its place or dropped; none where it can't be written, as was said.
+    pub file: Option<File>,
     // Whether it is a new file beside the old one, and not the old one itself.
     pub is_new: bool,
 }

@@ -3,72 +3,76 @@ ghost use Rattle.console.specs.Writings.{Begun};
 
 use crate::Writing;
 use crate::old::{Old, old_file};
-use crate::write::{abandon_file, begin_new, begin_through, is_no_file, not_written};
+use crate::open::{open_append, open_read};
+use crate::write::{abandon_file, begin_new, begin_through, not_written, write_bytes};
+use std::fs::File;
+use std::io;
+use std::io::{ErrorKind, Read};
 
 // The most reads of a file that is copied.
 const MOST_READS: u64 = 0xFFFF_FFFF_FFFF_FFFF;
 
+// The bytes of a file that are copied at once.
+const PART: usize = 65_536;
+
 // Begins a file that has what the old one has, where there is one, and is open to have more; or says that it is not written.
-pub fn begin_more(path: &[u8]) -> Writing
+pub fn begin_more(rt: HostRuntime, path: &[u8]) -> Writing
     ensures { Begun result }
 {
-    match old_file(path) {
-        Old::File => begin_copy(path),
-        Old::Other => begin_through(path, os::open_append(path)),
-        Old::Closed => not_written(path, path),
+    match old_file(rt, path) {
+        Old::File => begin_copy(rt, path),
+        Old::Other => begin_through(rt, path, open_append(rt, path)),
+        Old::Closed(error) => not_written(rt, path, path, error),
     }
 }
 
 // Begins a new file that has what the old one has.
-fn begin_copy(path: &[u8]) -> Writing
+fn begin_copy(rt: HostRuntime, path: &[u8]) -> Writing
     ensures { Begun result }
 {
-    let w = begin_new(path);
-    if is_no_file(w) {
-        return w;
+    let w = begin_new(rt, path);
+    match copy_into(rt, path, &w) {
+        Ok(()) => w,
+        Err(error) => {
+            let failed = not_written(rt, path, path, error);
+            abandon_file(rt, path, w);
+            failed
+        }
     }
-    if copy_old(path, w.fd) {
-        return w;
-    }
-    let failed = not_written(path, path);
-    abandon_file(path, w);
-    failed
 }
 
-// Copies a file to an open one and answers whether all of it is there; of a missing file that is nothing.
-fn copy_old(path: &[u8], to: i32) -> bool {
-    let from = os::open_read(path);
-    if from < 0 {
-        return os::errno() == libc::ENOENT;
+// Copies what stands at a path to a file that is begun; to one that can't be written nothing.
+fn copy_into(rt: HostRuntime, path: &[u8], to: &Writing) -> io::Result<()> {
+    match &to.file {
+        Some(file) => copy_old(rt, path, file),
+        None => Ok(()),
     }
-    let is_whole = copy_open(from, to);
-    libc::close(from);
-    is_whole
+}
+
+// Copies a file to an open one; of a missing file that is nothing.
+fn copy_old(rt: HostRuntime, path: &[u8], to: &File) -> io::Result<()> {
+    match open_read(rt, path) {
+        Ok(from) => copy_open(&from, to),
+        Err(error) if error.kind() == ErrorKind::NotFound => Ok(()),
+        Err(error) => Err(error),
+    }
 }
 
 // Copies the rest of one open file to another, until it ends or something fails.
-fn copy_open(from: i32, to: i32) -> bool {
-    let mut left = MOST_READS;
-    while 0 < left {
-        let n = copy_some(from, to);
-        if n <= 0 {
-            return n == 0;
+fn copy_open(from: &File, to: &File) -> io::Result<()> {
+    for _ in 0..MOST_READS {
+        if copy_some(from, to)? == 0 {
+            return Ok(());
         }
-        left -= 1;
     }
-    false
+    Err(io::Error::from(ErrorKind::FileTooLarge))
 }
 
-// Copies up to 64 KiB and answers how many bytes; -1 where something fails.
-fn copy_some(from: i32, to: i32) -> isize {
-    let mut part = io::large_buffer();
-    let n = libc::read(from, &mut part);
-    if n < 0 {
-        return -1;
-    }
-    let count = io::count(n, &part);
-    if io::write_all(to, &part[..count]) {
-        return n;
-    }
-    -1
+// Copies up to 64 KiB and answers how many bytes.
+fn copy_some(from: &File, to: &File) -> io::Result<usize> {
+    let mut part = [0u8; PART];
+    let mut source = from;
+    let n = source.read(&mut part)?;
+    write_bytes(to, &part[..n])?;
+    Ok(n)
 }

@@ -1,5 +1,7 @@
 // What stands at a path where a file is to be written.
+use crate::open::open_append;
 use crate::path::is_link;
+use std::io::{Error, ErrorKind};
 
 // What stands at a path.
 #[derive(Drop)]
@@ -8,26 +10,24 @@ pub enum Old {
     File,
     // A link, a device or a pipe, which is not to be replaced.
     Other,
-    // What can't be written.
-    Closed,
+    // What can't be written, and why.
+    Closed(Error),
 }
 
 // Looks at what stands at a path. Only files, and not devices or pipes, can be brought to the disk.
-pub fn old_file(path: &[u8]) -> Old {
-    if is_link(path) {
+pub fn old_file(rt: HostRuntime, path: &[u8]) -> Old {
+    if is_link(rt, path) {
         return Old::Other;
     }
-    let fd = os::open_append(path);
-    if fd < 0 {
-        if os::errno() == libc::ENOENT {
-            return Old::File;
+    match open_append(rt, path) {
+        Ok(file) => {
+            if file.sync_all().is_ok() {
+                Old::File
+            } else {
+                Old::Other
+            }
         }
-        return Old::Closed;
+        Err(error) if error.kind() == ErrorKind::NotFound => Old::File,
+        Err(error) => Old::Closed(error),
     }
-    let status = libc::fsync(fd);
-    libc::close(fd);
-    if status < 0 {
-        return Old::Other;
-    }
-    Old::File
 }

@@ -3,7 +3,7 @@ ghost use Rattle.std.specs.Prelude.{[], ◌∷◌, ◌≤◌, length};
 ghost use Rattle.text.specs.Numerals.{decimal};
 ghost use Rattle.console.specs.Line.{PiecesPut};
 
-use libc::{STDERR_FILENO, STDOUT_FILENO};
+use crate::failure::fail;
 use text::decimal::{digit_count, put_decimal};
 use text::place::put_bytes;
 
@@ -11,23 +11,23 @@ use text::place::put_bytes;
 pub const LINE: usize = 16_384;
 
 // Writes bytes to standard output; where that fails, standard error tells.
-pub fn say(bytes: &[u8]) {
-    if !io::write_all(STDOUT_FILENO, bytes) {
-        os::fail(b"standard output");
+pub fn say(rt: HostRuntime, bytes: &[u8]) {
+    if let Err(error) = rt.write_all(bytes) {
+        fail(rt, b"standard output", error);
     }
 }
 
 // Writes bytes to standard error, where progress is told.
-pub fn tell(bytes: &[u8]) {
-    io::write_all(STDERR_FILENO, bytes);
+pub fn tell(rt: HostRuntime, bytes: &[u8]) {
+    let _ = Print::write_all(&rt.stderr(), bytes);
 }
 
 // Says words of a file, after its name.
-pub fn say_of(file: &[u8], words: &[u8]) {
+pub fn say_of(rt: HostRuntime, file: &[u8], words: &[u8]) {
     let mut line = [0u8; LINE];
     let words_at = put_if_room(&mut line, 0, file);
     let end = put_if_room(&mut line, words_at, words);
-    say(&line[..end]);
+    say(rt, &line[..end]);
 }
 
 // Puts bytes at a place of a line and returns the place after them; where there is no room for them, puts none.

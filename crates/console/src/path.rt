@@ -1,40 +1,52 @@
 // Paths.
 ghost use Rattle.std.specs.Prelude.{◌≡◌, true, ◌<◌, length};
 ghost use Rattle.text.specs.Place.{put};
-ghost use Rattle.io.specs.Counts.{IsPrefixLen};
+ghost use Rattle.console.specs.Counts.{IsPrefixLen};
 ghost use Rattle.console.specs.Paths.{new_path};
 
-use libc::PATH_MAX;
+use crate::open::path_text;
+use std::fs::Metadata;
+use std::io::ErrorKind;
+use std::{fs, io};
 use text::place::put_bytes;
 
+// The bytes of the longest path, and one more.
+pub const PATH: usize = 4096;
+
 // Whether a path names a link, and not what the link leads to. One that is too long for a path names none.
-pub fn is_link(path: &[u8]) -> bool
+pub fn is_link(rt: HostRuntime, path: &[u8]) -> bool
     ensures { result ≡ true → length path.now < 4096 }
 {
-    if PATH_MAX <= path.len() {
+    if PATH <= path.len() {
         return false;
     }
-    let mut ended = [0u8; PATH_MAX];
-    put_bytes(&mut ended, 0, path);
-    ended[PATH_MAX - 1] = 0;
-    let mut target = [0u8; 1];
-    0 <= libc::readlink(&ended, &mut target)
+    match link_metadata(rt, path) {
+        Ok(metadata) => metadata.is_symlink(),
+        Err(_) => false,
+    }
+}
+
+// What the system says of a path itself, where it is a link.
+fn link_metadata(rt: HostRuntime, path: &[u8]) -> io::Result<Metadata> {
+    fs::symlink_metadata(&rt, path_text(path)?)
 }
 
 // Whether there is nothing at a path. It is not opened by this. Of one that is too long for a path the answer is no.
-pub fn is_missing(path: &[u8]) -> bool
+pub fn is_missing(rt: HostRuntime, path: &[u8]) -> bool
     ensures { result ≡ true → length path.now < 4096 }
 {
-    if PATH_MAX <= path.len() {
+    if PATH <= path.len() {
         return false;
     }
-    let mut ended = [0u8; PATH_MAX];
-    put_bytes(&mut ended, 0, path);
-    ended[PATH_MAX - 1] = 0;
-    if libc::access(&ended, libc::F_OK) < 0 {
-        return os::errno() == libc::ENOENT;
+    match metadata(rt, path) {
+        Ok(_) => false,
+        Err(error) => error.kind() == ErrorKind::NotFound,
     }
-    false
+}
+
+// What the system says of what a path leads to.
+fn metadata(rt: HostRuntime, path: &[u8]) -> io::Result<Metadata> {
+    fs::metadata(&rt, path_text(path)?)
 }
 
 // Puts the path of the new file beside the old one at the front and returns its length; 0 where it is too long for a path.

@@ -1,7 +1,7 @@
 // The line that is said of a refusal.
 ghost use Rattle.std.specs.Prelude.{◌≡◌, ◌+◌, ◌≤◌, length};
 ghost use Rattle.text.specs.Place.{put, PutsWithin};
-ghost use Rattle.io.specs.Counts.{IsPrefixLen};
+ghost use Rattle.console.specs.Counts.{IsPrefixLen};
 ghost use Rattle.console.specs.Refusals.{has_line, counted, place_text, refusal_line};
 
 use crate::output::say;
@@ -17,15 +17,15 @@ const ROOM: usize = 4352;
 
 // Says that a file is refused: its name, the line or the word, the number and its question in words. Of a longer name than a file can have, the
 // front is said.
-pub fn say_refusal(file: &[u8], number: u32, place: usize) {
+pub fn say_refusal(rt: HostRuntime, file: &[u8], number: u32, place: usize) {
     let mut line = [0u8; ROOM];
     if NAME < file.len() {
         let end = put_refusal(&mut line, &file[..NAME], number, place);
-        say(&line[..end]);
+        say(rt, &line[..end]);
         return;
     }
     let end = put_refusal(&mut line, file, number, place);
-    say(&line[..end]);
+    say(rt, &line[..end]);
 }
 
 // Puts the line of a refusal at the front and returns its length.

@@ -18,8 +18,6 @@ use Rattle.files.specs.Irq2File.{irq2_outcome, file_cycles}
 use Rattle.files.specs.Answers.{file_read_outcome, cycles_read_outcome}
 use Rattle.files.specs.Promises.{MemoryRead, Irq2Read, TextWritten}
 use Rattle.files.proofs.PutLaws.{length-text}
-use Rattle.files.specs.declared.FileRead.TheVariants as FileRead
-use Rattle.files.specs.declared.Written.TheVariants as Written
 
 -- ---- writers
 

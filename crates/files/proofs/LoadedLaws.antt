@@ -9,7 +9,6 @@ use Rattle.text.specs.Questions.{accepted}
 use Rattle.files.specs.declared.FileRead.{FileRead}
 use Rattle.files.specs.declared.FileRead.TheVariants.{Filled, WrongLength, NoWord, BadDigits}
 use Rattle.files.specs.declared.CyclesRead.{CyclesRead}
-use Rattle.files.specs.declared.CyclesRead.TheVariants as CyclesRead
 use Rattle.files.specs.Answers.{file_read_outcome, cycles_read_outcome}
 use Rattle.files.specs.Promises.{MemoryRead, Irq2Read}
 use Rattle.files.specs.Loaded.{FileLoaded, CyclesLoaded}

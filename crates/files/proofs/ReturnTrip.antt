@@ -32,7 +32,6 @@ use Rattle.files.specs.Sizes.{image_words, data_words, frame_bytes, sector_words
 use Rattle.files.specs.MemoryFile.{is_word, word_questions, lines_outcome, read_outcome, write_outcome, file_words, file_text, sectors_of, low48, SameImage}
 use Rattle.files.specs.Answers.{file_read_outcome, written_outcome}
 use Rattle.files.specs.Promises.{MemoryRead, TextWritten}
-use Rattle.files.specs.declared.FileRead.TheVariants as FileRead
 
 -- ---- the lines of a written text
 

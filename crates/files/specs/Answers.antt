@@ -5,9 +5,6 @@ use Rattle.text.specs.Questions.{accepted, refused}
 use Rattle.files.specs.declared.FileRead.{FileRead}
 use Rattle.files.specs.declared.CyclesRead.{CyclesRead}
 use Rattle.files.specs.declared.Written.{Written}
-use Rattle.files.specs.declared.FileRead.TheVariants as FileRead
-use Rattle.files.specs.declared.CyclesRead.TheVariants as CyclesRead
-use Rattle.files.specs.declared.Written.TheVariants as Written
 
 abbrev pub file_read_outcome : FileRead → Outcome
 file_read_outcome FileRead.Filled = accepted 0

@@ -1,5 +1,7 @@
 // The memory files (one word a line, 12, 8 or 2 hexadecimal digits) and the irq2 file (one cycle a line, decimal): their readers and
 // writers.
+#![tactic(auto)]
+
 mod answers;
 mod check;
 mod fill;
@@ -16,7 +18,7 @@ pub use sizes::{DATA_WORDS, DISK_WORDS, WORD_DIGITS};
 pub use write::{write_data, write_disk, write_frame, write_image};
 
 // What reading a memory file answers. Places are lines, from 1.
-#[derive(Drop)]
+#[derive(Clone, Copy)]
 pub enum FileRead {
     // Every word of the memory is set.
     Filled,
@@ -29,7 +31,7 @@ pub enum FileRead {
 }
 
 // What reading an irq2 file answers. Places are lines, from 1.
-#[derive(Drop)]
+#[derive(Clone, Copy)]
 pub enum CyclesRead {
     // So many cycles stand at the front of the lent slice.
     Cycles(usize),
@@ -42,7 +44,7 @@ pub enum CyclesRead {
 }
 
 // What writing a memory file answers.
-#[derive(Drop)]
+#[derive(Clone, Copy)]
 pub enum Written {
     // So many bytes of text stand at the front of the lent slice.
     Bytes(usize),

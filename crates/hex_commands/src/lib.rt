@@ -9,7 +9,7 @@ pub use converting::convert;
 pub use words::conversion_at;
 
 // What two words ask for.
-#[derive(Drop)]
+#[derive(Clone, Copy)]
 pub enum Conversion {
     HexToData,
     HexToDisk,

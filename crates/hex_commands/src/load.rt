@@ -12,12 +12,12 @@ const MOST: usize = 1_048_576;
 const FRONT: usize = 1_048_577;
 
 // Reads the HEX file that an argument names into a memory, and answers whether it is accepted; where not, says why and changes nothing.
-pub fn load_hex_at(i: usize, memory: &mut [u32]) -> bool
+pub fn load_hex_at(rt: HostRuntime, i: usize, memory: &mut [u32]) -> bool
     ensures { Loaded result memory.old memory.new }
 {
     let mut text = room();
-    if let Count::Of(n) = read_front_at(i, &mut text) {
-        return fill_memory(i, &text, n, memory);
+    if let Count::Of(n) = read_front_at(rt, i, &mut text) {
+        return fill_memory(rt, i, &text, n, memory);
     }
     false
 }
@@ -31,12 +31,12 @@ fn room() -> [u8; FRONT]
 
 // Fills a memory from a text of any length, of which the buffer holds the front in its first n bytes, and answers whether the text is accepted; says why
 // where not.
-fn fill_memory(i: usize, buffer: &[u8], n: usize, memory: &mut [u32]) -> bool
+fn fill_memory(rt: HostRuntime, i: usize, buffer: &[u8], n: usize, memory: &mut [u32]) -> bool
     requires { (most_bytes < length buffer.now) × (n ≤ length buffer.now) }
     ensures { HexFront buffer.now n result memory.old memory.new }
 {
     if MOST < n {
-        say_at(
+        say_at(rt,
             i,
             b": the file has more than 1048576 bytes (983053 are enough for the whole disk with a record for each byte)\n",
         );
@@ -45,7 +45,7 @@ fn fill_memory(i: usize, buffer: &[u8], n: usize, memory: &mut [u32]) -> bool
     let words = memory.len();
     let outcome = read_hex(&buffer[..n], words, memory).outcome();
     if outcome.number != 0 {
-        refuse_at(i, outcome.number, outcome.place);
+        refuse_at(rt, i, outcome.number, outcome.place);
         return false;
     }
     true

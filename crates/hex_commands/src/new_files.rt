@@ -8,17 +8,17 @@ use hex_files::{DATA_HEX, DISK_HEX, write_hex_data, write_hex_disk};
 use memories::write_new_text;
 
 // Writes the data memory as a new HEX file, under the name that an argument gives.
-pub fn write_new_hex_data(i: usize, memory: &[u32]) -> Writing
+pub fn write_new_hex_data(rt: HostRuntime, i: usize, memory: &[u32]) -> Writing
     ensures { NewWritten (is_data_length (length memory.now)) result }
 {
     let mut text = [0u8; DATA_HEX];
-    write_new_text(i, write_hex_data(memory, &mut text), &text)
+    write_new_text(rt, i, write_hex_data(memory, &mut text), &text)
 }
 
 // Writes the disk in the same way.
-pub fn write_new_hex_disk(i: usize, disk: &[u32]) -> Writing
+pub fn write_new_hex_disk(rt: HostRuntime, i: usize, disk: &[u32]) -> Writing
     ensures { NewWritten (is_disk_length (length disk.now)) result }
 {
     let mut text = [0u8; DISK_HEX];
-    write_new_text(i, write_hex_disk(disk, &mut text), &text)
+    write_new_text(rt, i, write_hex_disk(disk, &mut text), &text)
 }

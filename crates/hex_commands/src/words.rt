@@ -2,18 +2,19 @@
 ghost use Rattle.std.specs.Prelude.{◌≡◌, List, ℕ, ◌+◌, ◌^◌, ◌<◌};
 ghost use Rattle.hex_commands.specs.Words.{for_memory, conversion_of};
 
+use console::{NAME, argument};
 use crate::Conversion;
 use text::same::are_same;
 
 // The conversion that an argument and the next name: that of some two words, which can't be named here.
-pub fn conversion_at(i: usize) -> Conversion
+pub fn conversion_at(rt: HostRuntime, i: usize) -> Conversion
     requires { i + 1 < 2 ^ 64 }
     ensures { (way : List ℕ) × (memory : List ℕ) × (result ≡ conversion_of way memory) }
 {
-    let mut way = io::buffer();
-    let n = os::arg(i, &mut way);
-    let mut memory = io::buffer();
-    let m = os::arg(i + 1, &mut memory);
+    let mut way = [0u8; NAME];
+    let n = argument(rt, i, &mut way);
+    let mut memory = [0u8; NAME];
+    let m = argument(rt, i + 1, &mut memory);
     conversion_of(&way[..n], &memory[..m])
 }
 

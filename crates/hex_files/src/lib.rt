@@ -1,4 +1,6 @@
 // Intel HEX for the data memory and for the disk, each whole.
+#![tactic(auto)]
+
 mod read;
 mod write;
 

@@ -14,7 +14,6 @@ use Rattle.intel_hex.specs.Answers.{hex_read_outcome}
 use Rattle.intel_hex.specs.Promises.{HexFileRead}
 use Rattle.intel_hex.specs.Steps.{RecordsRead}
 use Rattle.intel_hex.proofs.WordLaws.{words-given}
-use Rattle.intel_hex.specs.declared.HexRead.TheVariants as HexRead
 
 module _ (size : ℕ) (text memory : List ℕ) where
   pub wrong_length : (length memory ≡ size → ⊥) → HexFileRead size text memory HexRead.WrongLength memory

@@ -16,7 +16,7 @@ use Rattle.text.proofs.PutLaws.{length-put}
 use Rattle.text.proofs.RangeLaws.{below_mod}
 use Rattle.intel_hex.specs.declared.record.Found.{Found}
 use Rattle.intel_hex.specs.declared.record.Head.{Head}
-use Rattle.intel_hex.specs.Record.{pair_values, total, line_bytes, data_count, address, is_record}
+use Rattle.intel_hex.specs.Record.{pair_values, total, line_bytes, data_count, is_record}
 use Rattle.intel_hex.specs.Reading.{without_cr}
 use Rattle.intel_hex.specs.Steps.{is_pair, pair_value, is_head, HeadRead, first_record, record_end, nothing_found, RecordFound}
 use Rattle.intel_hex.proofs.PairLaws.{values_below}

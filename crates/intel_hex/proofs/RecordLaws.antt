@@ -12,7 +12,7 @@ use lib.Seq.{length-take-le, get_or-take, take-take, take-add, take-suc, drop_at
 use lib.Dec.{eqb, ltb}
 use borrow.Author.Tests.{lt-ltb, eq-eqb, ne_eqb, eqb-true}
 use Rattle.text.specs.Numerals.{digit_value, all_digits}
-use Rattle.text.specs.Lines.{LF, first_line, ends_line}
+use Rattle.text.specs.Lines.{first_line, ends_line}
 use Rattle.text.proofs.Truth.{and_left, and_right}
 use Rattle.text.proofs.DigitLaws.{all_append, digit_of_lem}
 use Rattle.text.proofs.LineLaws.{NoLF, no_lf_append, goes_on, digits_no_lf, first_le, first-front, first_ends, first-is}

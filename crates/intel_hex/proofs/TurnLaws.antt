@@ -11,7 +11,6 @@ use borrow.Author.Tests.{lt-leb, le-leb, ltb-true, ltb-false, not-false}
 use Rattle.text.specs.declared.Outcome.{Outcome}
 use Rattle.text.specs.Questions.{accepted, refused, first_no}
 use Rattle.text.specs.Lines.{lines, first_line}
-use Rattle.text.specs.Place.{put}
 use Rattle.text.proofs.Truth.{and_right, neither}
 use Rattle.text.proofs.LineLaws.{lines-first}
 use Rattle.intel_hex.specs.declared.record.Found.{Found}

@@ -2,7 +2,6 @@
 use Rattle.text.specs.declared.Outcome.{Outcome}
 use Rattle.text.specs.Questions.{accepted, refused}
 use Rattle.intel_hex.specs.declared.HexRead.{HexRead}
-use Rattle.intel_hex.specs.declared.HexRead.TheVariants as HexRead
 
 abbrev pub hex_read_outcome : HexRead → Outcome
 hex_read_outcome HexRead.Filled = accepted 0

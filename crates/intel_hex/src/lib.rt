@@ -1,5 +1,7 @@
 // Intel HEX for memories of 32-bit words: read into a memory of any number of them, and written from one that records of 16 bytes fill within 64 KiB.
 // Nothing here knows of a computer.
+#![tactic(auto)]
+
 mod answers;
 mod ask;
 mod fill;
@@ -12,7 +14,7 @@ pub use put::put_hex_text;
 pub use read::read_hex;
 
 // What reading a text answers. Places are lines, from 1.
-#[derive(Drop)]
+#[derive(Clone, Copy)]
 pub enum HexRead {
     // The text is good: every word of the memory is set.
     Filled,

@@ -8,7 +8,7 @@ ghost use Rattle.intel_hex.specs.Steps.{is_pair, pair_value};
 use text::digits::digit_at;
 
 // Whether bytes are digits, and the sum of the bytes that their pairs stand for.
-#[derive(Drop)]
+#[derive(Clone, Copy)]
 pub struct Pairs {
     pub good: bool,
     pub sum: u64,

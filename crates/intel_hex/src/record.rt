@@ -16,7 +16,7 @@ const HEAD: usize = 9;
 pub const BYTES: usize = 65_792;
 
 // What stands before a record's data: whether it is `:` and digits, and what they say; the sum of their bytes.
-#[derive(Drop)]
+#[derive(Clone, Copy)]
 pub struct Head {
     pub good: bool,
     pub count: usize,
@@ -26,7 +26,7 @@ pub struct Head {
 }
 
 // What was found at the front of a text: whether a record stands on its first line. If so, where that line ends, and what the record says.
-#[derive(Drop)]
+#[derive(Clone, Copy)]
 pub struct Found {
     pub good: bool,
     pub end: usize,

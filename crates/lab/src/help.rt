@@ -2,7 +2,7 @@
 use console::{LINE, put_if_room, say};
 
 // Prints the words.
-pub fn print_overview() {
+pub fn print_overview(rt: HostRuntime) {
     let mut text = [0u8; LINE];
     let mut at = put_if_room(
         &mut text,
@@ -19,11 +19,11 @@ pub fn print_overview() {
         at,
         b"lab WORD alone says more of each. Programs are assembled by asm and run by sim.\n",
     );
-    say(&text[..at]);
+    say(rt, &text[..at]);
 }
 
 // Prints how `lab list` is used.
-pub fn print_list_help() {
+pub fn print_list_help(rt: HostRuntime) {
     let mut text = [0u8; LINE];
     let mut at = put_if_room(
         &mut text,
@@ -45,11 +45,11 @@ pub fn print_list_help() {
         at,
         b"  add $t0, $t0, $imm1, $zero, 1, 0          op rd, rs, rt, rm, imm1, imm2\n\nA file that is refused gives one line: what is wrong, and where. Of one whose words are all zero\nnothing is printed; a note on standard error says so.\n",
     );
-    say(&text[..at]);
+    say(rt, &text[..at]);
 }
 
 // Prints how `lab show` is used.
-pub fn print_show_help() {
+pub fn print_show_help(rt: HostRuntime) {
     let mut text = [0u8; LINE];
     let mut at = put_if_room(
         &mut text,
@@ -66,11 +66,11 @@ pub fn print_show_help() {
         at,
         b"A line has a name and its value. PC and the registers are hexadecimal; status, handler,\nage (cycles done), left (disk cycles to go), sector and buffer are decimal. handler is 1 inside the\ninterrupt handler. sector and buffer are those of the disk command that goes on; 0 without one.\n",
     );
-    say(&text[..at]);
+    say(rt, &text[..at]);
 }
 
 // Prints how `lab picture` is used.
-pub fn print_picture_help() {
+pub fn print_picture_help(rt: HostRuntime) {
     let mut text = [0u8; LINE];
     let mut at = put_if_room(
         &mut text,
@@ -87,11 +87,11 @@ pub fn print_picture_help() {
         at,
         b"Example:\n\n  lab picture monitor.txt circle.pgm\n",
     );
-    say(&text[..at]);
+    say(rt, &text[..at]);
 }
 
 // Prints how `lab resume` is used.
-pub fn print_resume_help() {
+pub fn print_resume_help(rt: HostRuntime) {
     let mut text = [0u8; LINE];
     let mut at = put_if_room(
         &mut text,
@@ -113,11 +113,11 @@ pub fn print_resume_help() {
         at,
         b"Example:\n\n  lab resume imemin.txt dmem.txt disk.txt monitor.txt record.bin irq2in.txt 1000 log.txt\n\nStopped and resumed with the same files, a run writes the log that one long run writes. All files\nare written, or none: each beside the old one as NAME.new, which takes its place at the end.\n",
     );
-    say(&text[..at]);
+    say(rt, &text[..at]);
 }
 
 // Prints how `lab hex` is used.
-pub fn print_hex_help() {
+pub fn print_hex_help(rt: HostRuntime) {
     let mut text = [0u8; LINE];
     let mut at = put_if_room(
         &mut text,
@@ -139,5 +139,5 @@ pub fn print_hex_help() {
         at,
         b"Addresses count bytes: word n is bytes 4n to 4n+3, the most significant first. Data has 16384\nbytes, the disk 65536. Each record starts above the last byte of those before it; bytes that none\nnames are zero. A HEX file that is written has the whole memory, 16 bytes a record.\n\nA file that is refused gives one line: what is wrong, and where. Nothing is written then.\n",
     );
-    say(&text[..at]);
+    say(rt, &text[..at]);
 }

@@ -9,12 +9,12 @@ use crate::help::{
 };
 use crate::words::command_of;
 use commands::{draw_frame, list_file, show_record};
-use console::{are_names, open_missing_standard_streams};
+use console::{NAME, are_names, argument, argument_count, open_missing_standard_streams};
 use hex_commands::{Conversion, conversion_at, convert};
 use run_commands::resume;
 
 // What a word names.
-#[derive(Drop)]
+#[derive(Clone, Copy)]
 pub enum Command {
     List,
     Show,
@@ -25,86 +25,86 @@ pub enum Command {
     Unknown,
 }
 
-fn main() {
-    open_missing_standard_streams();
-    let count = os::arg_count();
+fn main(rt: HostRuntime) {
+    open_missing_standard_streams(rt);
+    let count = argument_count(rt);
     if count < 2 {
-        print_overview();
+        print_overview(rt);
         return;
     }
-    match command_at(1) {
-        Command::List => list(count),
-        Command::Show => show(count),
-        Command::Picture => picture(count),
-        Command::Resume => run_on(count),
-        Command::Hex => hex(count),
-        Command::Unknown => print_overview(),
+    match command_at(rt, 1) {
+        Command::List => list(rt, count),
+        Command::Show => show(rt, count),
+        Command::Picture => picture(rt, count),
+        Command::Resume => run_on(rt, count),
+        Command::Hex => hex(rt, count),
+        Command::Unknown => print_overview(rt),
     }
 }
 
 // The command that an argument names.
-fn command_at(i: usize) -> Command {
-    let mut word = io::buffer();
-    let n = os::arg(i, &mut word);
+fn command_at(rt: HostRuntime, i: usize) -> Command {
+    let mut word = [0u8; NAME];
+    let n = argument(rt, i, &mut word);
     command_of(&word[..n])
 }
 
 // lab list IMEM
-fn list(count: usize) {
+fn list(rt: HostRuntime, count: usize) {
     if count != 3 {
-        print_list_help();
+        print_list_help(rt);
         return;
     }
-    if are_names(2, 1) {
-        list_file(2);
+    if are_names(rt, 2, 1) {
+        list_file(rt, 2);
     }
 }
 
 // lab show RECORD
-fn show(count: usize) {
+fn show(rt: HostRuntime, count: usize) {
     if count != 3 {
-        print_show_help();
+        print_show_help(rt);
         return;
     }
-    if are_names(2, 1) {
-        show_record(2);
+    if are_names(rt, 2, 1) {
+        show_record(rt, 2);
     }
 }
 
 // lab picture MONITOR PGM
-fn picture(count: usize) {
+fn picture(rt: HostRuntime, count: usize) {
     if count != 4 {
-        print_picture_help();
+        print_picture_help(rt);
         return;
     }
-    if are_names(2, 2) {
-        draw_frame(2);
+    if are_names(rt, 2, 2) {
+        draw_frame(rt, 2);
     }
 }
 
 // lab resume IMEM DMEM DISK MONITOR RECORD IRQ2 CYCLES LOG
-fn run_on(count: usize) {
+fn run_on(rt: HostRuntime, count: usize) {
     if count != 10 {
-        print_resume_help();
+        print_resume_help(rt);
         return;
     }
-    if are_names(2, 8) {
-        resume(2);
+    if are_names(rt, 2, 8) {
+        resume(rt, 2);
     }
 }
 
 // lab hex read data HEX DMEM, lab hex read disk HEX DISK, lab hex write data DMEM HEX, lab hex write disk DISK HEX
-fn hex(count: usize) {
+fn hex(rt: HostRuntime, count: usize) {
     if count != 6 {
-        print_hex_help();
+        print_hex_help(rt);
         return;
     }
-    let conversion = conversion_at(2);
+    let conversion = conversion_at(rt, 2);
     if let Conversion::Unknown = conversion {
-        print_hex_help();
+        print_hex_help(rt);
         return;
     }
-    if are_names(4, 2) {
-        convert(conversion, 4);
+    if are_names(rt, 4, 2) {
+        convert(rt, conversion, 4);
     }
 }

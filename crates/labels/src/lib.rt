@@ -1,4 +1,6 @@
 // The first pass over an assembly text: its labels and their values.
+#![tactic(auto)]
+
 pub mod counts;
 mod find;
 
@@ -8,7 +10,7 @@ pub use find::find_labels;
 pub const MOST_LABELS: usize = 1024;
 
 // What the first pass over a text finds: how many labels; whether it went to the end of the text, or stopped where the table had no room for one more.
-#[derive(Drop)]
+#[derive(Clone, Copy)]
 pub struct FirstPass {
     pub labels: usize,
     pub all: bool,

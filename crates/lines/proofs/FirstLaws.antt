@@ -12,7 +12,7 @@ use Rattle.text.specs.Bytes.{bytes}
 use Rattle.text.proofs.Truth.{and_left}
 use Rattle.source.specs.declared.Span.{Span}
 use Rattle.source.specs.Bytes.{most_bytes, are_right_bytes, is_letter, is_letter_or_digit, are_all}
-use Rattle.source.specs.Tokens.{tokens, tokens_from, texts}
+use Rattle.source.specs.Tokens.{tokens, texts}
 use Rattle.source.specs.Spans.{TokenAt}
 use Rattle.text.specs.Same.{same}
 use Rattle.source.specs.Names.{is_name, defined, is_definition}

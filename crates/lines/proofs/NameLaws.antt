@@ -1,7 +1,7 @@
 -- The names of an instruction, by their numbers among all names. Assumes nothing.
 use Prim.Native.Nat.{ℕ, suc, ◌+◌, ◌-◌, ◌≤◌, ◌<◌, ◌^◌}
 use mathlib.Core.Path.{◌≡◌, refl, sym, ◌∙◌, ap}
-use mathlib.Core.Bool.{Bool, true, false, cond, not, ◌&&◌, false≢true}
+use mathlib.Core.Bool.{Bool, true, false, cond, not, ◌&&◌}
 use mathlib.Core.List.{List, [], ◌∷◌, ◌++◌}
 use native.Mathlib.Omega.{arith}
 use lib.Dec.{ltb, leb, eqb}
@@ -20,10 +20,10 @@ use Rattle.symbols.specs.Table.{names_of}
 use Rattle.symbols.specs.Sound.{Sound, Found}
 use Rattle.symbols.proofs.NameLaws.{length-names}
 use Rattle.symbols.proofs.DistinctLaws.{Distinct, found_place}
-use Rattle.symbols.proofs.LookupLaws.{place_le, among-place, among_first, name-at-place, place_kept}
+use Rattle.symbols.proofs.LookupLaws.{among-place, name-at-place, place_kept}
 use Rattle.lines.specs.declared.Form.{Form}
 use Rattle.lines.specs.declared.Names.{Names}
-use Rattle.lines.specs.Line.{part, op_at, operation, operand}
+use Rattle.lines.specs.Line.{part, op_at}
 use Rattle.lines.specs.Asked.{is_known}
 use Rattle.lines.specs.Names.{operation_count, name_count, all_names, NameTable, NamesRead, is_register_number, are_known, fields_with}
 

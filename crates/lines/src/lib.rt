@@ -1,10 +1,12 @@
 // One line of assembly text: its form, and the names and numbers in it.
+#![tactic(auto)]
+
 pub mod forms;
 pub mod instructions;
 pub mod ranges;
 
 // The form of a line.
-#[derive(Drop)]
+#[derive(Clone, Copy)]
 pub enum Form {
     // Blanks and a comment.
     Nothing,
@@ -21,7 +23,7 @@ pub enum Form {
 }
 
 // The names of an instruction, by their numbers among all names: first the operations, then the registers.
-#[derive(Drop)]
+#[derive(Clone, Copy)]
 pub struct Names {
     pub op: usize,
     pub rd: usize,

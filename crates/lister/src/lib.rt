@@ -1,4 +1,6 @@
 // The lister: instruction words as assembly text. What it writes and what it answers stand in specs/.
+#![tactic(auto)]
+
 mod answers;
 mod immediates;
 mod lengths;
@@ -17,7 +19,7 @@ pub use used::used_words;
 const MOST_WORDS: usize = 4096;
 
 // What listing answers.
-#[derive(Drop)]
+#[derive(Clone, Copy)]
 pub enum Listed {
     // So many bytes of text stand at the front of the lent slice.
     Bytes(usize),

@@ -1,4 +1,5 @@
 // Runs whose log goes out in pieces, and the lines E and N that follow a log or stand for one.
+use console::Writing;
 use machine::Record;
 
 mod print;
@@ -9,17 +10,19 @@ mod send;
 pub use print::{print_line_e, print_line_n};
 pub use run::{run_budget, run_on};
 
-// Where a log goes, as open descriptors.
-#[derive(Drop)]
-pub enum Sink {
-    // All lines, to one.
-    Whole(i32),
+// Where a log goes.
+#[derive(Clone, Copy)]
+pub enum Sink<'a> {
+    // All lines, to standard output.
+    Output,
+    // All lines, to a file that is begun.
+    Whole(&'a Writing),
     // The lines T, H, L and D, without their letters, to one each.
-    Split(i32, i32, i32, i32),
+    Split(&'a Writing, &'a Writing, &'a Writing, &'a Writing),
 }
 
 // How a run whose log goes out in pieces ended: the record, the cycles that were made, and whether each piece of its log was written.
-#[derive(Drop)]
+#[derive(Clone, Copy)]
 pub struct RunEnd {
     pub state: Record,
     pub cycles: u64,

@@ -1,17 +1,16 @@
 // The lines E and N, printed.
-use libc::STDOUT_FILENO;
 use summary::{put_line_e, put_line_n};
 
 // Prints the line E of a status and an age.
-pub fn print_line_e(status: u32, age: u64) {
+pub fn print_line_e(rt: HostRuntime, status: u32, age: u64) {
     let mut line = [0u8; 65];
     let end = put_line_e(&mut line, 0, status, age);
-    io::write_all(STDOUT_FILENO, &line[..end]);
+    let _ = rt.write_all(&line[..end]);
 }
 
 // Prints the line N of a refusal's number and line.
-pub fn print_line_n(number: u32, place: usize) {
+pub fn print_line_n(rt: HostRuntime, number: u32, place: usize) {
     let mut line = [0u8; 44];
     let end = put_line_n(&mut line, 0, number, place);
-    io::write_all(STDOUT_FILENO, &line[..end]);
+    let _ = rt.write_all(&line[..end]);
 }

@@ -5,16 +5,16 @@ use console::{put_if_room, put_number, tell};
 const STRIDE: u64 = 4_194_304;
 
 // Tells the age of a machine on standard error, where one of its last cycles ended a stride.
-pub fn tell_progress(age: u64, cycles: u64) {
+pub fn tell_progress(rt: HostRuntime, age: u64, cycles: u64) {
     if age % STRIDE < cycles {
-        tell_age(age);
+        tell_age(rt, age);
     }
 }
 
 // Tells an age.
-fn tell_age(age: u64) {
+fn tell_age(rt: HostRuntime, age: u64) {
     let mut line = [0u8; 64];
     let words_at = put_number(&mut line, 0, age as usize);
     let end = put_if_room(&mut line, words_at, b" cycles\n");
-    tell(&line[..end]);
+    tell(rt, &line[..end]);
 }

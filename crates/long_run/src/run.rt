@@ -9,7 +9,6 @@ ghost use Rattle.long_run.specs.Pieces.{whole_budget, is_log_full, Piece, Ends};
 use crate::progress::tell_progress;
 use crate::send::send;
 use crate::{RunEnd, Sink};
-use libc::STDOUT_FILENO;
 use machine::Record;
 use runner::{RunAnswer, RunReport, run};
 use saved::fresh_record;
@@ -18,7 +17,7 @@ use saved::fresh_record;
 const BUDGET: u64 = 100_000;
 
 // Runs an image with an irq2 list from the fresh record until the budget is spent or the machine has stopped, and prints the log.
-pub fn run_budget(
+pub fn run_budget(rt: HostRuntime,
     image: &[u64; 4096],
     memory: &mut [u32; 4096],
     disk: &mut [u32; 16384],
@@ -29,7 +28,7 @@ pub fn run_budget(
     ensures { Ends image.now irq2.now whole_budget (fresh_machine memory.old disk.old frame.old) result (machine_of result.state memory.new disk.new frame.new) }
 {
     let fresh = fresh_record();
-    run_on(
+    run_on(rt,
         fresh,
         image,
         memory,
@@ -37,13 +36,13 @@ pub fn run_budget(
         frame,
         irq2,
         BUDGET,
-        Sink::Whole(STDOUT_FILENO),
+        Sink::Output,
     )
 }
 
 // Runs an image with an irq2 list from a sound record until the budget is spent, the machine has stopped or is at the cycle limit, or the log can't
 // be written. The log goes out in pieces; long runs tell on standard error how far they are.
-pub fn run_on(
+pub fn run_on(rt: HostRuntime,
     start: Record,
     image: &[u64; 4096],
     memory: &mut [u32; 4096],
@@ -51,7 +50,7 @@ pub fn run_on(
     frame: &mut [u8; 65536],
     irq2: &[u64],
     budget: u64,
-    to: Sink,
+    to: Sink<'_>,
 ) -> RunEnd
     requires { Sound start.core start.regs start.io × (rising irq2.now ≡ true) }
     ensures { Ends image.now irq2.now budget (machine_of start memory.old disk.old frame.old) result (machine_of result.state memory.new disk.new frame.new) }
@@ -64,7 +63,7 @@ pub fn run_on(
         let bytes = piece.bytes;
         let answer = piece.answer;
         let is_full = is_log_full(answer);
-        let is_sent = send(&log[..bytes], to);
+        let is_sent = send(rt, &log[..bytes], to);
         state = piece.state;
         left -= piece.cycles;
         let made = budget - left;
@@ -75,7 +74,7 @@ pub fn run_on(
                 written: is_sent,
             };
         }
-        tell_progress(state.core.age, piece.cycles);
+        tell_progress(rt, state.core.age, piece.cycles);
     }
 }
 

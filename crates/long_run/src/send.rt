@@ -2,25 +2,30 @@
 ghost use Rattle.std.specs.Prelude.{◌≤◌, length};
 
 use crate::Sink;
+use console::{Writing, fail, write_more};
 use outputs::split_log;
+use std::io;
 
 // Writes a piece of a log and answers whether all of it is written; standard error tells why not.
-pub fn send(log: &[u8], to: Sink) -> bool
+pub fn send(rt: HostRuntime, log: &[u8], to: Sink<'_>) -> bool
     requires { length log.now ≤ 65536 }
 {
-    if write_piece(log, to) {
-        return true;
+    match write_piece(rt, log, to) {
+        Ok(()) => true,
+        Err(error) => {
+            fail(rt, b"the log", error);
+            false
+        }
     }
-    os::fail(b"the log");
-    false
 }
 
 // Writes a piece of a log to where the log goes.
-fn write_piece(log: &[u8], to: Sink) -> bool
+fn write_piece(rt: HostRuntime, log: &[u8], to: Sink<'_>) -> io::Result<()>
     requires { length log.now ≤ 65536 }
 {
     match to {
-        Sink::Whole(fd) => io::write_all(fd, log),
+        Sink::Output => rt.write_all(log),
+        Sink::Whole(file) => write_more(file, log),
         Sink::Split(trace, hwregtrace, leds, display7seg) => {
             write_split(log, trace, hwregtrace, leds, display7seg)
         }
@@ -28,7 +33,13 @@ fn write_piece(log: &[u8], to: Sink) -> bool
 }
 
 // Writes the lines T, H, L and D, without their letters, to a file each.
-fn write_split(log: &[u8], trace: i32, hwregtrace: i32, leds: i32, display7seg: i32) -> bool
+fn write_split(
+    log: &[u8],
+    trace: &Writing,
+    hwregtrace: &Writing,
+    leds: &Writing,
+    display7seg: &Writing,
+) -> io::Result<()>
     requires { length log.now ≤ 65536 }
 {
     let mut t = [0u8; 65536];
@@ -36,14 +47,8 @@ fn write_split(log: &[u8], trace: i32, hwregtrace: i32, leds: i32, display7seg: 
     let mut l = [0u8; 65536];
     let mut d = [0u8; 65536];
     let n = split_log(log, &mut t, &mut h, &mut l, &mut d);
-    if !io::write_all(trace, &t[..n.trace]) {
-        return false;
-    }
-    if !io::write_all(hwregtrace, &h[..n.hwregtrace]) {
-        return false;
-    }
-    if !io::write_all(leds, &l[..n.leds]) {
-        return false;
-    }
-    io::write_all(display7seg, &d[..n.display7seg])
+    write_more(trace, &t[..n.trace])?;
+    write_more(hwregtrace, &h[..n.hwregtrace])?;
+    write_more(leds, &l[..n.leds])?;
+    write_more(display7seg, &d[..n.display7seg])
 }

@@ -16,7 +16,7 @@ pub struct Core {
 }
 
 // The record: the scalars, R3 to R15, and the I/O registers by number (18, 19 and 22 hold 0).
-#[derive(Drop)]
+#[derive(Clone, Copy)]
 pub struct Record {
     pub core: Core,
     pub regs: [u32; 13],

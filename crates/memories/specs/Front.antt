@@ -1,6 +1,6 @@
 -- What reading a file's front promises.
 use Rattle.std.specs.Prelude.{ℕ, List}
-use Rattle.io.specs.Counts.{IsPrefixLen}
+use Rattle.console.specs.Counts.{IsPrefixLen}
 use Rattle.memories.specs.declared.Count.{Count}
 use Rattle.memories.specs.declared.Count.TheVariants.{Of, None}
 

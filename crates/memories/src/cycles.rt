@@ -4,16 +4,16 @@ ghost use Rattle.memories.specs.Cycles.{FrontCycles, LoadedCycles, count_of, out
 
 use crate::front::{FRONT, read_front};
 use crate::{Count, FileLoad};
-use console::say_refusal;
+use console::{NAME, argument, say_refusal};
 use files::read_irq2;
 use text::Outcome;
 
 // Reads an irq2 file of up to 16,384 cycles, or as many as there is room for. They stand at the front then, and rise.
-pub fn load_irq2(path: &[u8], cycles: &mut [u64]) -> FileLoad
+pub fn load_irq2(rt: HostRuntime, path: &[u8], cycles: &mut [u64]) -> FileLoad
     ensures { LoadedCycles result cycles.old cycles.new }
 {
     let mut text = [0u8; FRONT];
-    if let Count::Of(n) = read_front(path, &mut text) {
+    if let Count::Of(n) = read_front(rt, path, &mut text) {
         return FileLoad::Read(fill_cycles(&text, n, cycles));
     }
     FileLoad::Unread
@@ -28,31 +28,31 @@ fn fill_cycles(buffer: &[u8], n: usize, cycles: &mut [u64]) -> Outcome
 }
 
 // Reads the irq2 file that an argument names, and returns how many cycles it has; none where it is refused, as is said.
-pub fn load_irq2_at(i: usize, cycles: &mut [u64]) -> Count
+pub fn load_irq2_at(rt: HostRuntime, i: usize, cycles: &mut [u64]) -> Count
     ensures { RiseIn result cycles.old cycles.new }
 {
-    let mut name = io::buffer();
-    let n = os::arg(i, &mut name);
-    let load = load_irq2(&name[..n], cycles);
-    count_of(&name[..n], load)
+    let mut name = [0u8; NAME];
+    let n = argument(rt, i, &mut name);
+    let load = load_irq2(rt, &name[..n], cycles);
+    count_of(rt, &name[..n], load)
 }
 
 // How many cycles were read; none where the file is refused, as is said.
-fn count_of(path: &[u8], load: FileLoad) -> Count
+fn count_of(rt: HostRuntime, path: &[u8], load: FileLoad) -> Count
     ensures { result ≡ count_of load }
 {
     match load {
-        FileLoad::Read(outcome) => outcome_count(path, outcome),
+        FileLoad::Read(outcome) => outcome_count(rt, path, outcome),
         FileLoad::Unread => Count::None,
     }
 }
 
 // The count of an outcome; none of a refusal, as is said.
-fn outcome_count(path: &[u8], outcome: Outcome) -> Count
+fn outcome_count(rt: HostRuntime, path: &[u8], outcome: Outcome) -> Count
     ensures { result ≡ outcome_count outcome }
 {
     if outcome.number != 0 {
-        say_refusal(path, outcome.number, outcome.place);
+        say_refusal(rt, path, outcome.number, outcome.place);
         return Count::None;
     }
     Count::Of(outcome.count)

@@ -29,14 +29,14 @@ pub use new_files::{
 pub use records::{fresh, load_record_at, write_new_record};
 
 // A count, or none where something was refused, as was said.
-#[derive(Drop)]
+#[derive(Clone, Copy)]
 pub enum Count {
     Of(usize),
     None,
 }
 
 // What loading a file answers.
-#[derive(Drop)]
+#[derive(Clone, Copy)]
 pub enum FileLoad {
     // The file was read, and this is its outcome.
     Read(Outcome),
@@ -45,7 +45,7 @@ pub enum FileLoad {
 }
 
 // A record to go on with; or the fresh one where none was read, as was said.
-#[derive(Drop)]
+#[derive(Clone, Copy)]
 pub struct RecordRead {
     pub state: Record,
     pub is_read: bool,

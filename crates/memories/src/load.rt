@@ -11,11 +11,11 @@ use files::{read_data, read_disk, read_frame, read_image};
 use text::Outcome;
 
 // Reads an instruction file into the image.
-pub fn load_image(path: &[u8], image: &mut [u64]) -> FileLoad
+pub fn load_image(rt: HostRuntime, path: &[u8], image: &mut [u64]) -> FileLoad
     ensures { LoadedFile image_digits is_image_length result image.old image.new }
 {
     let mut text = [0u8; FRONT];
-    if let Count::Of(n) = read_front(path, &mut text) {
+    if let Count::Of(n) = read_front(rt, path, &mut text) {
         return FileLoad::Read(fill_image(&text, n, image));
     }
     FileLoad::Unread
@@ -30,11 +30,11 @@ fn fill_image(buffer: &[u8], n: usize, image: &mut [u64]) -> Outcome
 }
 
 // Reads a file of data in the same way.
-pub fn load_data(path: &[u8], memory: &mut [u32]) -> FileLoad
+pub fn load_data(rt: HostRuntime, path: &[u8], memory: &mut [u32]) -> FileLoad
     ensures { LoadedFile word_digits is_data_length result memory.old memory.new }
 {
     let mut text = [0u8; FRONT];
-    if let Count::Of(n) = read_front(path, &mut text) {
+    if let Count::Of(n) = read_front(rt, path, &mut text) {
         return FileLoad::Read(fill_data(&text, n, memory));
     }
     FileLoad::Unread
@@ -49,11 +49,11 @@ fn fill_data(buffer: &[u8], n: usize, memory: &mut [u32]) -> Outcome
 }
 
 // Reads a file of the whole disk in the same way.
-pub fn load_disk(path: &[u8], disk: &mut [u32]) -> FileLoad
+pub fn load_disk(rt: HostRuntime, path: &[u8], disk: &mut [u32]) -> FileLoad
     ensures { LoadedFile word_digits is_part_length result disk.old disk.new }
 {
     let mut text = [0u8; FRONT];
-    if let Count::Of(n) = read_front(path, &mut text) {
+    if let Count::Of(n) = read_front(rt, path, &mut text) {
         return FileLoad::Read(fill_disk(&text, n, disk));
     }
     FileLoad::Unread
@@ -68,11 +68,11 @@ fn fill_disk(buffer: &[u8], n: usize, disk: &mut [u32]) -> Outcome
 }
 
 // Reads a file of the frame in the same way.
-pub fn load_frame(path: &[u8], frame: &mut [u8]) -> FileLoad
+pub fn load_frame(rt: HostRuntime, path: &[u8], frame: &mut [u8]) -> FileLoad
     ensures { LoadedFile frame_digits is_frame_length result frame.old frame.new }
 {
     let mut text = [0u8; FRONT];
-    if let Count::Of(n) = read_front(path, &mut text) {
+    if let Count::Of(n) = read_front(rt, path, &mut text) {
         return FileLoad::Read(fill_frame(&text, n, frame));
     }
     FileLoad::Unread

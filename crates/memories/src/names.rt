@@ -2,18 +2,19 @@
 ghost use Rattle.std.specs.Prelude.{◌≡◌, true, List, ℕ, ◌+◌, ◌^◌, ◌<◌};
 ghost use Rattle.memories.specs.Names.{is_device, is_new_of, clash};
 
+use console::{NAME, argument};
 use crate::named::say_at;
 use text::same::{are_same, begins_with};
 
 // Whether the name of a file that is written clashes with that of one before it: the arguments from `first` on, of which so many are read. Says so
 // of the first that does.
-pub fn names_clash(first: usize, read: usize, count: usize) -> bool
+pub fn names_clash(rt: HostRuntime, first: usize, read: usize, count: usize) -> bool
     requires { first + count < 2 ^ 64 }
     ensures { result ≡ true → read < count }
 {
     let mut i = read;
     while i < count {
-        if clashes_with_one(first + i, first, i) {
+        if clashes_with_one(rt, first + i, first, i) {
             return true;
         }
         i += 1;
@@ -22,14 +23,14 @@ pub fn names_clash(first: usize, read: usize, count: usize) -> bool
 }
 
 // Whether the name that an argument gives clashes with that of one of so many arguments from `first` on; says so.
-pub fn clashes_with_one(i: usize, first: usize, count: usize) -> bool
+pub fn clashes_with_one(rt: HostRuntime, i: usize, first: usize, count: usize) -> bool
     requires { first + count < 2 ^ 64 }
     ensures { result ≡ true → 0 < count }
 {
     let mut k = 0;
     while k < count {
-        if arguments_clash(first + k, i) {
-            say_at(i, b" is given for two files; nothing is written\n");
+        if arguments_clash(rt, first + k, i) {
+            say_at(rt, i, b" is given for two files; nothing is written\n");
             return true;
         }
         k += 1;
@@ -38,11 +39,11 @@ pub fn clashes_with_one(i: usize, first: usize, count: usize) -> bool
 }
 
 // Whether two arguments give names that clash.
-fn arguments_clash(i: usize, j: usize) -> bool {
-    let mut first = io::buffer();
-    let n = os::arg(i, &mut first);
-    let mut second = io::buffer();
-    let m = os::arg(j, &mut second);
+fn arguments_clash(rt: HostRuntime, i: usize, j: usize) -> bool {
+    let mut first = [0u8; NAME];
+    let n = argument(rt, i, &mut first);
+    let mut second = [0u8; NAME];
+    let m = argument(rt, j, &mut second);
     do_clash(&first[..n], &second[..m])
 }
 
@@ -74,11 +75,11 @@ fn is_new_of(new: &[u8], name: &[u8]) -> bool
 }
 
 // Whether an argument names a device: as it is of some name, which can't be named here.
-pub fn is_device_at(i: usize) -> bool
+pub fn is_device_at(rt: HostRuntime, i: usize) -> bool
     ensures { (name : List ℕ) × (result ≡ is_device name) }
 {
-    let mut name = io::buffer();
-    let n = os::arg(i, &mut name);
+    let mut name = [0u8; NAME];
+    let n = argument(rt, i, &mut name);
     is_device(&name[..n])
 }
 

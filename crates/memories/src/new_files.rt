@@ -6,7 +6,7 @@ ghost use Rattle.console.specs.Writings.{no_file, Begun};
 ghost use Rattle.memories.specs.NewFiles.{NewWritten};
 
 use crate::named::refuse_at;
-use console::{Writing, write_new_file};
+use console::{NAME, Writing, argument, write_new_file};
 use files::{Written, write_data, write_disk, write_frame, write_image};
 use text::Outcome;
 
@@ -20,64 +20,64 @@ const DISK_TEXT: usize = 147_456;
 const FRAME_TEXT: usize = 196_608;
 
 // Writes the instruction file as a new file, under the name that an argument gives.
-pub fn write_new_image(i: usize, image: &[u64]) -> Writing
+pub fn write_new_image(rt: HostRuntime, i: usize, image: &[u64]) -> Writing
     ensures { NewWritten (is_image_length (length image.now)) result }
 {
     let mut text = [0u8; IMAGE_TEXT];
-    write_new_text(i, write_image(image, &mut text), &text)
+    write_new_text(rt, i, write_image(image, &mut text), &text)
 }
 
 // Writes the file of data in the same way.
-pub fn write_new_data(i: usize, memory: &[u32]) -> Writing
+pub fn write_new_data(rt: HostRuntime, i: usize, memory: &[u32]) -> Writing
     ensures { NewWritten (is_data_length (length memory.now)) result }
 {
     let mut text = [0u8; DATA_TEXT];
-    write_new_text(i, write_data(memory, &mut text), &text)
+    write_new_text(rt, i, write_data(memory, &mut text), &text)
 }
 
 // Writes the file of the whole disk in the same way.
-pub fn write_new_disk(i: usize, disk: &[u32]) -> Writing
+pub fn write_new_disk(rt: HostRuntime, i: usize, disk: &[u32]) -> Writing
     ensures { NewWritten (is_disk_length (length disk.now)) result }
 {
     let mut text = [0u8; DISK_TEXT];
-    write_new_text(i, write_disk(disk, 0, 128, &mut text), &text)
+    write_new_text(rt, i, write_disk(disk, 0, 128, &mut text), &text)
 }
 
 // Writes the file of the frame in the same way.
-pub fn write_new_frame(i: usize, frame: &[u8]) -> Writing
+pub fn write_new_frame(rt: HostRuntime, i: usize, frame: &[u8]) -> Writing
     ensures { NewWritten (is_frame_length (length frame.now)) result }
 {
     let mut text = [0u8; FRAME_TEXT];
-    write_new_text(i, write_frame(frame, &mut text), &text)
+    write_new_text(rt, i, write_frame(frame, &mut text), &text)
 }
 
 // Writes bytes as a new file, under the name that an argument gives.
-pub fn write_new_bytes(i: usize, bytes: &[u8]) -> Writing
+pub fn write_new_bytes(rt: HostRuntime, i: usize, bytes: &[u8]) -> Writing
     ensures { Begun result }
 {
-    let mut name = io::buffer();
-    let n = os::arg(i, &mut name);
-    write_new_file(&name[..n], bytes)
+    let mut name = [0u8; NAME];
+    let n = argument(rt, i, &mut name);
+    write_new_file(rt, &name[..n], bytes)
 }
 
 // Writes a text that a writer filled; says why where it was refused.
-pub fn write_new_text(i: usize, written: Written, text: &[u8]) -> Writing
+pub fn write_new_text(rt: HostRuntime, i: usize, written: Written, text: &[u8]) -> Writing
     ensures { NewWritten (eqb (written_outcome written).number 0) result }
 {
     let outcome = written.outcome();
     if outcome.number != 0 {
-        return unwritten(i, outcome);
+        return unwritten(rt, i, outcome);
     }
-    write_new_bytes(i, text)
+    write_new_bytes(rt, i, text)
 }
 
 // Says why a file is not written.
-pub fn unwritten(i: usize, outcome: Outcome) -> Writing
+pub fn unwritten(rt: HostRuntime, i: usize, outcome: Outcome) -> Writing
     ensures { result ≡ no_file }
 {
-    refuse_at(i, outcome.number, outcome.place);
+    refuse_at(rt, i, outcome.number, outcome.place);
     Writing {
-        fd: -1,
+        file: None,
         is_new: false,
     }
 }

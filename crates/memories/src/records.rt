@@ -19,18 +19,18 @@ const BYTES: usize = 94;
 const FRONT: usize = 95;
 
 // Reads the saved record that an argument names; the fresh record where it is refused, as is said.
-pub fn load_record_at(i: usize) -> RecordRead
+pub fn load_record_at(rt: HostRuntime, i: usize) -> RecordRead
     ensures { SoundRead result }
 {
     let mut bytes = [0u8; FRONT];
-    if let Count::Of(n) = read_front_at(i, &mut bytes) {
-        return record_of(i, &bytes, n);
+    if let Count::Of(n) = read_front_at(rt, i, &mut bytes) {
+        return record_of(rt, i, &bytes, n);
     }
     fresh(false)
 }
 
 // The record of a file of any length, of which the buffer holds the front in its first n bytes; the fresh record where it is refused, as is said.
-fn record_of(i: usize, buffer: &[u8], n: usize) -> RecordRead
+fn record_of(rt: HostRuntime, i: usize, buffer: &[u8], n: usize) -> RecordRead
     requires { (94 < length buffer.now) × (n ≤ length buffer.now) }
     ensures { FrontLoaded buffer.now n result }
 {
@@ -38,7 +38,7 @@ fn record_of(i: usize, buffer: &[u8], n: usize) -> RecordRead
     let answer = loaded.answer;
     let outcome = answer.outcome();
     if outcome.number != 0 {
-        refuse_at(i, outcome.number, outcome.place);
+        refuse_at(rt, i, outcome.number, outcome.place);
         return fresh(false);
     }
     let state = loaded.state;
@@ -60,13 +60,13 @@ pub fn fresh(is_read: bool) -> RecordRead
 }
 
 // Writes a record as a new file, under the name that an argument gives; says why where it is refused.
-pub fn write_new_record(i: usize, state: Record) -> Writing
+pub fn write_new_record(rt: HostRuntime, i: usize, state: Record) -> Writing
     ensures { NewWritten (is_sound state) result }
 {
     let mut bytes = [0u8; BYTES];
     let outcome = save(state, &mut bytes).outcome();
     if outcome.number != 0 {
-        return unwritten(i, outcome);
+        return unwritten(rt, i, outcome);
     }
-    write_new_bytes(i, &bytes)
+    write_new_bytes(rt, i, &bytes)
 }

@@ -21,7 +21,7 @@ pub use record::put_record;
 pub use registers::put_registers;
 
 // How many bytes each of the four texts has that a log is split into.
-#[derive(Drop)]
+#[derive(Clone, Copy)]
 pub struct Split {
     pub trace: usize,
     pub hwregtrace: usize,

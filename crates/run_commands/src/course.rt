@@ -13,32 +13,32 @@ use saved::fresh_record;
 
 // Reads the instruction file, the file of data, the disk and the irq2 file that the arguments from `first` on name, runs the program from the fresh
 // record with so much budget, and writes the ten files that the next arguments name.
-pub fn simulate(first: usize, budget: u64)
+pub fn simulate(rt: HostRuntime, first: usize, budget: u64)
     requires { first + 14 < 2 ^ 64 }
 {
-    if names_clash(first, 4, 14) {
+    if names_clash(rt, first, 4, 14) {
         return;
     }
     let mut image = [0u64; 4096];
     let mut memory = [0u32; 4096];
     let mut disk = [0u32; 16384];
-    if !load_image_at(first, &mut image) {
+    if !load_image_at(rt, first, &mut image) {
         return;
     }
-    if !load_data_at(first + 1, &mut memory) {
+    if !load_data_at(rt, first + 1, &mut memory) {
         return;
     }
-    if !load_disk_at(first + 2, &mut disk) {
+    if !load_disk_at(rt, first + 2, &mut disk) {
         return;
     }
     let mut cycles = [0u64; 16384];
-    if let Count::Of(n) = load_irq2_at(first + 3, &mut cycles) {
-        run_logged(first, &image, &mut memory, &mut disk, &cycles[..n], budget);
+    if let Count::Of(n) = load_irq2_at(rt, first + 3, &mut cycles) {
+        run_logged(rt, first, &image, &mut memory, &mut disk, &cycles[..n], budget);
     }
 }
 
 // Runs the program, its log going to four files.
-fn run_logged(
+fn run_logged(rt: HostRuntime,
     first: usize,
     image: &[u64; 4096],
     memory: &mut [u32; 4096],
@@ -48,16 +48,16 @@ fn run_logged(
 )
     requires { (first + 14 < 2 ^ 64) × (rising irq2.now ≡ true) }
 {
-    let logs = begin_logs(first);
-    if !are_open(logs) {
-        abandon_logs(first, logs);
+    let logs = begin_logs(rt, first);
+    if !are_open(&logs) {
+        abandon_logs(rt, first, logs);
         return;
     }
-    run_split(first, image, memory, disk, irq2, budget, logs);
+    run_split(rt, first, image, memory, disk, irq2, budget, logs);
 }
 
 // The same with the four files open.
-fn run_split(
+fn run_split(rt: HostRuntime,
     first: usize,
     image: &[u64; 4096],
     memory: &mut [u32; 4096],
@@ -71,22 +71,22 @@ fn run_split(
     let mut frame = [0u8; 65536];
     let start = fresh_record();
     let to = Sink::Split(
-        logs.trace.fd,
-        logs.hwregtrace.fd,
-        logs.leds.fd,
-        logs.display7seg.fd,
+        &logs.trace,
+        &logs.hwregtrace,
+        &logs.leds,
+        &logs.display7seg,
     );
-    let end = run_on(start, image, memory, disk, &mut frame, irq2, budget, to);
+    let end = run_on(rt, start, image, memory, disk, &mut frame, irq2, budget, to);
     if !end.written {
-        abandon_logs(first, logs);
-        say_log_unwritten();
+        abandon_logs(rt, first, logs);
+        say_log_unwritten(rt);
         return;
     }
-    let has_logs = commit_logs(first, logs);
+    let has_logs = commit_logs(rt, first, logs);
     let state = end.state;
-    let has_ends = write_ends(first, state, memory, disk, &frame);
-    say_stop(state.core);
+    let has_ends = write_ends(rt, first, state, memory, disk, &frame);
+    say_stop(rt, state.core);
     if !both(has_logs, has_ends) {
-        say(b"not all files are written\n");
+        say(rt, b"not all files are written\n");
     }
 }

@@ -6,6 +6,7 @@ ghost use Rattle.machine.specs.Soundness.{Sound};
 use crate::report::{say_log_unwritten, say_stop};
 use crate::start::{is_log_without_record, start_frame, start_record};
 use crate::writing_back::write_back;
+use console::is_no_file;
 use long_run::{Sink, run_on};
 use machine::Record;
 use memories::{
@@ -15,64 +16,64 @@ use memories::{
 
 // Reads the instruction file, the file of data, the disk, the frame, the saved record, the irq2 file and the budget that the arguments from `first`
 // on name or give, runs on, and writes the memories and the record back. The log goes to the end of the file that the last argument names.
-pub fn resume(first: usize)
+pub fn resume(rt: HostRuntime, first: usize)
     requires { first + 8 < 2 ^ 64 }
 {
-    if has_clash(first) {
+    if has_clash(rt, first) {
         return;
     }
-    if let Count::Of(budget) = read_budget(first + 6) {
+    if let Count::Of(budget) = read_budget(rt, first + 6) {
         let mut image = [0u64; 4096];
         let mut cycles = [0u64; 16384];
-        if !load_image_at(first, &mut image) {
+        if !load_image_at(rt, first, &mut image) {
             return;
         }
-        if let Count::Of(n) = load_irq2_at(first + 5, &mut cycles) {
-            resume_image(first, &image, &cycles[..n], budget as u64);
+        if let Count::Of(n) = load_irq2_at(rt, first + 5, &mut cycles) {
+            resume_image(rt, first, &image, &cycles[..n], budget as u64);
         }
     }
 }
 
 // Whether one of the files that are written has the name of another file: the four after the instruction file, which is read, and the log; the
 // irq2 file is read too, and what stands between it and the log is a number.
-fn has_clash(first: usize) -> bool
+fn has_clash(rt: HostRuntime, first: usize) -> bool
     requires { first + 8 < 2 ^ 64 }
 {
-    if names_clash(first, 1, 5) {
+    if names_clash(rt, first, 1, 5) {
         return true;
     }
-    if clashes_with_one(first + 5, first + 1, 4) {
+    if clashes_with_one(rt, first + 5, first + 1, 4) {
         return true;
     }
-    clashes_with_one(first + 7, first, 6)
+    clashes_with_one(rt, first + 7, first, 6)
 }
 
 // The same with the image and the irq2 list.
-fn resume_image(first: usize, image: &[u64; 4096], irq2: &[u64], budget: u64)
+fn resume_image(rt: HostRuntime, first: usize, image: &[u64; 4096], irq2: &[u64], budget: u64)
     requires { (first + 8 < 2 ^ 64) × (rising irq2.now ≡ true) }
 {
     let mut memory = [0u32; 4096];
     let mut disk = [0u32; 16384];
     let mut frame = [0u8; 65536];
-    if !load_data_at(first + 1, &mut memory) {
+    if !load_data_at(rt, first + 1, &mut memory) {
         return;
     }
-    if !load_disk_at(first + 2, &mut disk) {
+    if !load_disk_at(rt, first + 2, &mut disk) {
         return;
     }
-    let is_fresh = is_missing_at(first + 4);
-    if is_log_without_record(first + 7, is_fresh) {
+    let is_fresh = is_missing_at(rt, first + 4);
+    if is_log_without_record(rt, first + 7, is_fresh) {
         return;
     }
-    if !start_frame(first + 3, is_fresh, &mut frame) {
+    if !start_frame(rt, first + 3, is_fresh, &mut frame) {
         return;
     }
-    let start = start_record(first + 4, is_fresh);
+    let start = start_record(rt, first + 4, is_fresh);
     if !start.is_read {
         return;
     }
     let state = start.state;
-    run_more(
+    run_more(rt,
         first,
         state,
         image,
@@ -85,7 +86,7 @@ fn resume_image(first: usize, image: &[u64; 4096], irq2: &[u64], budget: u64)
 }
 
 // Runs on, its log going to the end of a file.
-fn run_more(
+fn run_more(rt: HostRuntime,
     first: usize,
     state: Record,
     image: &[u64; 4096],
@@ -97,11 +98,11 @@ fn run_more(
 )
     requires { (first + 8 < 2 ^ 64) × (rising irq2.now ≡ true) × Sound state.core state.regs state.io }
 {
-    let log = more_at(first + 7);
-    if log.fd < 0 {
+    let log = more_at(rt, first + 7);
+    if is_no_file(&log) {
         return;
     }
-    let end = run_on(
+    let end = run_on(rt,
         state,
         image,
         memory,
@@ -109,15 +110,15 @@ fn run_more(
         frame,
         irq2,
         budget,
-        Sink::Whole(log.fd),
+        Sink::Whole(&log),
     );
     if !end.written {
-        abandon_at(first + 7, log);
-        say_log_unwritten();
+        abandon_at(rt, first + 7, log);
+        say_log_unwritten(rt);
         return;
     }
     let then = end.state;
-    if write_back(first, end_at(first + 7, log), then, memory, disk, frame) {
-        say_stop(then.core);
+    if write_back(rt, first, end_at(rt, first + 7, log), then, memory, disk, frame) {
+        say_stop(rt, then.core);
     }
 }

@@ -9,7 +9,7 @@ use memories::{
 };
 
 // Writes all of them, or none unless putting one into its place fails after others, and answers whether they are there then.
-pub fn write_back(
+pub fn write_back(rt: HostRuntime,
     first: usize,
     log: Writing,
     state: Record,
@@ -20,25 +20,25 @@ pub fn write_back(
     requires { first + 8 < 2 ^ 64 }
     ensures { result ≡ true → CanBeBack log state memory.now disk.now frame.now }
 {
-    let d = write_new_data(first + 1, memory);
-    let k = write_new_disk(first + 2, disk);
-    let f = write_new_frame(first + 3, frame);
-    let r = write_new_record(first + 4, state);
-    if are_written(log, d, k, f, r) {
-        return commit_all(first, log, d, k, f, r);
+    let d = write_new_data(rt, first + 1, memory);
+    let k = write_new_disk(rt, first + 2, disk);
+    let f = write_new_frame(rt, first + 3, frame);
+    let r = write_new_record(rt, first + 4, state);
+    if are_written(&log, &d, &k, &f, &r) {
+        return commit_all(rt, first, log, d, k, f, r);
     }
-    drop_at(first + 1, d);
-    drop_at(first + 2, k);
-    drop_at(first + 3, f);
-    drop_at(first + 4, r);
-    drop_at(first + 7, log);
-    say(b"nothing is written back\n");
+    drop_at(rt, first + 1, d);
+    drop_at(rt, first + 2, k);
+    drop_at(rt, first + 3, f);
+    drop_at(rt, first + 4, r);
+    drop_at(rt, first + 7, log);
+    say(rt, b"nothing is written back\n");
     false
 }
 
 // Whether five files are whole.
-fn are_written(a: Writing, b: Writing, c: Writing, d: Writing, e: Writing) -> bool
-    ensures { result ≡ are_written a b c d e }
+fn are_written(a: &Writing, b: &Writing, c: &Writing, d: &Writing, e: &Writing) -> bool
+    ensures { result ≡ are_written a.now b.now c.now d.now e.now }
 {
     if is_no_file(a) {
         return false;
@@ -56,21 +56,21 @@ fn are_written(a: Writing, b: Writing, c: Writing, d: Writing, e: Writing) -> bo
 }
 
 // Puts the log, the memories and the record into their places, up to the first that can't be; those after it are removed.
-fn commit_all(first: usize, log: Writing, d: Writing, k: Writing, f: Writing, r: Writing) -> bool
+fn commit_all(rt: HostRuntime, first: usize, log: Writing, d: Writing, k: Writing, f: Writing, r: Writing) -> bool
     requires { first + 8 < 2 ^ 64 }
 {
-    let mut is_committed = commit_at(first + 7, log);
-    is_committed = commit_or_drop(first + 1, d, is_committed);
-    is_committed = commit_or_drop(first + 2, k, is_committed);
-    is_committed = commit_or_drop(first + 3, f, is_committed);
-    commit_or_drop(first + 4, r, is_committed)
+    let mut is_committed = commit_at(rt, first + 7, log);
+    is_committed = commit_or_drop(rt, first + 1, d, is_committed);
+    is_committed = commit_or_drop(rt, first + 2, k, is_committed);
+    is_committed = commit_or_drop(rt, first + 3, f, is_committed);
+    commit_or_drop(rt, first + 4, r, is_committed)
 }
 
 // Puts a file into its place, or removes it.
-fn commit_or_drop(i: usize, w: Writing, is_wanted: bool) -> bool {
+fn commit_or_drop(rt: HostRuntime, i: usize, w: Writing, is_wanted: bool) -> bool {
     if is_wanted {
-        return commit_at(i, w);
+        return commit_at(rt, i, w);
     }
-    drop_at(i, w);
+    drop_at(rt, i, w);
     false
 }

@@ -1,4 +1,6 @@
 // The saved record: edition 2, and edition 1, which is read only. What their bytes are stands in specs/.
+#![tactic(auto)]
+
 use machine::Record;
 
 mod answers;
@@ -16,7 +18,7 @@ pub use saving::save;
 pub use sound::{is_possible, is_sound};
 
 // What saving answers.
-#[derive(Drop)]
+#[derive(Clone, Copy)]
 pub enum Saved {
     // The bytes hold the record.
     Done,
@@ -27,7 +29,7 @@ pub enum Saved {
 }
 
 // What reading a record answers.
-#[derive(Drop)]
+#[derive(Clone, Copy)]
 pub enum LoadAnswer {
     // The record is read.
     Loaded,
@@ -42,7 +44,7 @@ pub enum LoadAnswer {
 }
 
 // What reading a record hands back: the record, fresh where the bytes are refused, and the answer.
-#[derive(Drop)]
+#[derive(Clone, Copy)]
 pub struct Loaded {
     pub state: Record,
     pub answer: LoadAnswer,

@@ -1,11 +1,11 @@
 // The help text. It is put together first, so that it is written at once.
 ghost use Rattle.std.specs.Prelude.{◌≤◌, length};
-ghost use Rattle.io.specs.Counts.{IsPrefixLen};
+ghost use Rattle.console.specs.Counts.{IsPrefixLen};
 
 use console::{LINE, put_if_room, say};
 
 // Prints what the program does and its files.
-pub fn print_help() {
+pub fn print_help(rt: HostRuntime) {
     let mut text = [0u8; LINE];
     let mut at = put_if_room(
         &mut text,
@@ -19,7 +19,7 @@ pub fn print_help() {
         at,
         b"With CYCLES the run stops after so many cycles if the program has not halted before; a\nprogram that never halts fills the disk without it. A missing line of a memory is zero.\nA file that is refused gives one line, what is wrong and where, and nothing is written.\nEach file is written beside the old one as NAME.new and takes its place when it is whole.\n",
     );
-    say(&text[..at]);
+    say(rt, &text[..at]);
 }
 
 // Puts the files that are read at a place of the text and returns the place after it.

@@ -3,32 +3,32 @@
 mod help;
 
 use crate::help::print_help;
-use console::{are_names, open_missing_standard_streams};
+use console::{are_names, argument_count, open_missing_standard_streams};
 use memories::{Count, read_budget};
 use run_commands::simulate;
 
 // The age at which a machine makes no cycle any more: as good as no budget.
 const MOST_CYCLES: u64 = 1_099_511_627_775;
 
-fn main() {
-    open_missing_standard_streams();
-    match os::arg_count() {
-        15 => simulate_names(MOST_CYCLES),
-        16 => simulate_budget(),
-        _ => print_help(),
+fn main(rt: HostRuntime) {
+    open_missing_standard_streams(rt);
+    match argument_count(rt) {
+        15 => simulate_names(rt, MOST_CYCLES),
+        16 => simulate_budget(rt),
+        _ => print_help(rt),
     }
 }
 
 // Runs with the budget of the fifteenth argument.
-fn simulate_budget() {
-    if let Count::Of(budget) = read_budget(15) {
-        simulate_names(budget as u64);
+fn simulate_budget(rt: HostRuntime) {
+    if let Count::Of(budget) = read_budget(rt, 15) {
+        simulate_names(rt, budget as u64);
     }
 }
 
 // Runs with a budget.
-fn simulate_names(budget: u64) {
-    if are_names(1, 14) {
-        simulate(1, budget);
+fn simulate_names(rt: HostRuntime, budget: u64) {
+    if are_names(rt, 1, 14) {
+        simulate(rt, 1, budget);
     }
 }

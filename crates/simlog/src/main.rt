@@ -5,26 +5,26 @@ ghost use Rattle.files.specs.Sizes.{image_digits, is_image_length};
 ghost use Rattle.files.specs.Front.{FrontRead};
 ghost use Rattle.simlog.specs.Simlog.{Ran};
 
+use console::read_full;
 use files::read_image;
-use libc::STDIN_FILENO;
 use long_run::{RunEnd, print_line_e, print_line_n, run_budget};
 use text::Outcome;
 
 // The bytes that decide how a file of any length is read: those of 4,096 lines, and one more.
 const FRONT: usize = 53_249;
 
-fn main() {
+fn main(rt: HostRuntime) {
     let mut text = [0u8; FRONT];
-    let n = io::read_full(STDIN_FILENO, &mut text);
+    let n = read_full(&mut rt.stdin(), &mut text);
     let mut image = [0u64; 4096];
     let outcome = read_front(&text, n, &mut image);
     if outcome.number != 0 {
-        print_line_n(outcome.number, outcome.place);
+        print_line_n(rt, outcome.number, outcome.place);
         return;
     }
-    let end = run_image(&image);
+    let end = run_image(rt, &image);
     if end.written {
-        print_line_e(end.state.core.status, end.state.core.age);
+        print_line_e(rt, end.state.core.status, end.state.core.age);
     }
 }
 
@@ -37,12 +37,12 @@ fn read_front(buffer: &[u8], n: usize, image: &mut [u64; 4096]) -> Outcome
 }
 
 // Runs an image and prints the log.
-fn run_image(image: &[u64; 4096]) -> RunEnd
+fn run_image(rt: HostRuntime, image: &[u64; 4096]) -> RunEnd
     ensures { Ran image.now result }
 {
     let mut memory = [0u32; 4096];
     let mut disk = [0u32; 16384];
     let mut frame = [0u8; 65536];
     let irq2 = [0u64; 0];
-    run_budget(image, &mut memory, &mut disk, &mut frame, &irq2)
+    run_budget(rt, image, &mut memory, &mut disk, &mut frame, &irq2)
 }

@@ -5,8 +5,7 @@ use assembler::assemble;
 use lister::list;
 
 // Assembles a text into an image and a data memory.
-#[unsafe(no_mangle)]
-pub extern "C" fn simp_assemble(
+pub fn simp_assemble(
     source: &[u8],
     image: &mut [u64],
     memory: &mut [u32],
@@ -20,8 +19,7 @@ pub extern "C" fn simp_assemble(
 }
 
 // Lists words into the front of a text.
-#[unsafe(no_mangle)]
-pub extern "C" fn simp_list(words: &[u64], text: &mut [u8], count: &mut u64, place: &mut u64) -> u32
+pub fn simp_list(words: &[u64], text: &mut [u8], count: &mut u64, place: &mut u64) -> u32
     ensures { Lists words.now text.old result text.new count.new place.new }
 {
     let outcome = list(words, text).outcome();

@@ -7,8 +7,7 @@ ghost use Rattle.simp.specs.Files.{ReadsHex, Writes};
 use hex_files::{read_hex_data, read_hex_disk, write_hex_data, write_hex_disk};
 
 // Reads Intel HEX into a data memory.
-#[unsafe(no_mangle)]
-pub extern "C" fn simp_read_hex_data(text: &[u8], memory: &mut [u32], place: &mut u64) -> u32
+pub fn simp_read_hex_data(text: &[u8], memory: &mut [u32], place: &mut u64) -> u32
     ensures { ReadsHex data_words text.now memory.old result memory.new place.new }
 {
     let outcome = read_hex_data(text, memory).outcome();
@@ -17,8 +16,7 @@ pub extern "C" fn simp_read_hex_data(text: &[u8], memory: &mut [u32], place: &mu
 }
 
 // Reads Intel HEX into a disk.
-#[unsafe(no_mangle)]
-pub extern "C" fn simp_read_hex_disk(text: &[u8], disk: &mut [u32], place: &mut u64) -> u32
+pub fn simp_read_hex_disk(text: &[u8], disk: &mut [u32], place: &mut u64) -> u32
     ensures { ReadsHex disk_words text.now disk.old result disk.new place.new }
 {
     let outcome = read_hex_disk(text, disk).outcome();
@@ -27,8 +25,7 @@ pub extern "C" fn simp_read_hex_disk(text: &[u8], disk: &mut [u32], place: &mut 
 }
 
 // Writes a data memory as Intel HEX into the front of a text.
-#[unsafe(no_mangle)]
-pub extern "C" fn simp_write_hex_data(memory: &[u32], text: &mut [u8], count: &mut u64) -> u32
+pub fn simp_write_hex_data(memory: &[u32], text: &mut [u8], count: &mut u64) -> u32
     ensures { Writes (is_data_length (length memory.now)) (hex_text memory.now) text.old result text.new count.new }
 {
     let outcome = write_hex_data(memory, text).outcome();
@@ -37,8 +34,7 @@ pub extern "C" fn simp_write_hex_data(memory: &[u32], text: &mut [u8], count: &m
 }
 
 // Writes a disk as Intel HEX into the front of a text.
-#[unsafe(no_mangle)]
-pub extern "C" fn simp_write_hex_disk(disk: &[u32], text: &mut [u8], count: &mut u64) -> u32
+pub fn simp_write_hex_disk(disk: &[u32], text: &mut [u8], count: &mut u64) -> u32
     ensures { Writes (is_disk_length (length disk.now)) (hex_text disk.now) text.old result text.new count.new }
 {
     let outcome = write_hex_disk(disk, text).outcome();

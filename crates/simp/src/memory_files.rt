@@ -10,8 +10,7 @@ use files::{
 };
 
 // Reads an instruction file into an image.
-#[unsafe(no_mangle)]
-pub extern "C" fn simp_read_image(text: &[u8], image: &mut [u64], place: &mut u64) -> u32
+pub fn simp_read_image(text: &[u8], image: &mut [u64], place: &mut u64) -> u32
     ensures { Reads image_digits is_image_length text.now image.old result image.new place.new }
 {
     let outcome = read_image(text, image).outcome();
@@ -20,8 +19,7 @@ pub extern "C" fn simp_read_image(text: &[u8], image: &mut [u64], place: &mut u6
 }
 
 // Reads a file of data into a data memory.
-#[unsafe(no_mangle)]
-pub extern "C" fn simp_read_data(text: &[u8], memory: &mut [u32], place: &mut u64) -> u32
+pub fn simp_read_data(text: &[u8], memory: &mut [u32], place: &mut u64) -> u32
     ensures { Reads word_digits is_data_length text.now memory.old result memory.new place.new }
 {
     let outcome = read_data(text, memory).outcome();
@@ -30,8 +28,7 @@ pub extern "C" fn simp_read_data(text: &[u8], memory: &mut [u32], place: &mut u6
 }
 
 // Reads a file of disk words into a part of whole sectors.
-#[unsafe(no_mangle)]
-pub extern "C" fn simp_read_disk(text: &[u8], part: &mut [u32], place: &mut u64) -> u32
+pub fn simp_read_disk(text: &[u8], part: &mut [u32], place: &mut u64) -> u32
     ensures { Reads word_digits is_part_length text.now part.old result part.new place.new }
 {
     let outcome = read_disk(text, part).outcome();
@@ -40,8 +37,7 @@ pub extern "C" fn simp_read_disk(text: &[u8], part: &mut [u32], place: &mut u64)
 }
 
 // Reads a file of the frame into a frame.
-#[unsafe(no_mangle)]
-pub extern "C" fn simp_read_frame(text: &[u8], frame: &mut [u8], place: &mut u64) -> u32
+pub fn simp_read_frame(text: &[u8], frame: &mut [u8], place: &mut u64) -> u32
     ensures { Reads frame_digits is_frame_length text.now frame.old result frame.new place.new }
 {
     let outcome = read_frame(text, frame).outcome();
@@ -50,8 +46,7 @@ pub extern "C" fn simp_read_frame(text: &[u8], frame: &mut [u8], place: &mut u64
 }
 
 // Reads an irq2 file into the front of a list of cycles.
-#[unsafe(no_mangle)]
-pub extern "C" fn simp_read_irq2(
+pub fn simp_read_irq2(
     text: &[u8],
     cycles: &mut [u64],
     count: &mut u64,
@@ -66,8 +61,7 @@ pub extern "C" fn simp_read_irq2(
 }
 
 // Writes an image as an instruction file into the front of a text.
-#[unsafe(no_mangle)]
-pub extern "C" fn simp_write_image(image: &[u64], text: &mut [u8], count: &mut u64) -> u32
+pub fn simp_write_image(image: &[u64], text: &mut [u8], count: &mut u64) -> u32
     ensures { Writes (is_image_length (length image.now)) (file_text image_digits image.now) text.old result text.new count.new }
 {
     let outcome = write_image(image, text).outcome();
@@ -76,8 +70,7 @@ pub extern "C" fn simp_write_image(image: &[u64], text: &mut [u8], count: &mut u
 }
 
 // Writes a data memory into the front of a text.
-#[unsafe(no_mangle)]
-pub extern "C" fn simp_write_data(memory: &[u32], text: &mut [u8], count: &mut u64) -> u32
+pub fn simp_write_data(memory: &[u32], text: &mut [u8], count: &mut u64) -> u32
     ensures { Writes (is_data_length (length memory.now)) (file_text word_digits memory.now) text.old result text.new count.new }
 {
     let outcome = write_data(memory, text).outcome();
@@ -86,8 +79,7 @@ pub extern "C" fn simp_write_data(memory: &[u32], text: &mut [u8], count: &mut u
 }
 
 // Writes so many sectors of a disk, from sector `first` on, into the front of a text.
-#[unsafe(no_mangle)]
-pub extern "C" fn simp_write_disk(
+pub fn simp_write_disk(
     disk: &[u32],
     first: u64,
     sectors: u64,
@@ -102,8 +94,7 @@ pub extern "C" fn simp_write_disk(
 }
 
 // Writes a frame into the front of a text.
-#[unsafe(no_mangle)]
-pub extern "C" fn simp_write_frame(frame: &[u8], text: &mut [u8], count: &mut u64) -> u32
+pub fn simp_write_frame(frame: &[u8], text: &mut [u8], count: &mut u64) -> u32
     ensures { Writes (is_frame_length (length frame.now)) (file_text frame_digits frame.now) text.old result text.new count.new }
 {
     let outcome = write_frame(frame, text).outcome();

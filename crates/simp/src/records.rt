@@ -6,8 +6,7 @@ use crate::numbers::{RECORD_NUMBERS, put_numbers, record_of};
 use saved::{load, save};
 
 // Saves the record of 40 numbers in 94 bytes.
-#[unsafe(no_mangle)]
-pub extern "C" fn simp_save(numbers: &[u64], bytes: &mut [u8]) -> u32
+pub fn simp_save(numbers: &[u64], bytes: &mut [u8]) -> u32
     ensures { Saves numbers.now bytes.old result bytes.new }
 {
     if numbers.len() != RECORD_NUMBERS {
@@ -18,8 +17,7 @@ pub extern "C" fn simp_save(numbers: &[u64], bytes: &mut [u8]) -> u32
 }
 
 // Reads 94 bytes of edition 2, or 91 of edition 1, into the 40 numbers of a record.
-#[unsafe(no_mangle)]
-pub extern "C" fn simp_load(bytes: &[u8], numbers: &mut [u64]) -> u32
+pub fn simp_load(bytes: &[u8], numbers: &mut [u64]) -> u32
     ensures { Loads bytes.now numbers.old result numbers.new }
 {
     if numbers.len() != RECORD_NUMBERS {

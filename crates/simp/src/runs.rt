@@ -12,8 +12,7 @@ use runner::run;
 const REPORT_NUMBERS: usize = 3;
 
 // Runs the machine of 40 numbers and lent memories.
-#[unsafe(no_mangle)]
-pub extern "C" fn simp_run(
+pub fn simp_run(
     numbers: &mut [u64],
     image: &[u64],
     memory: &mut [u32],

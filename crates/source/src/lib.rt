@@ -1,4 +1,5 @@
 // Assembly text without an instruction set: bytes, tokens with their places, numbers, names and the shapes of lines. What they are stands in specs/.
+#![tactic(auto)]
 
 pub mod bytes;
 pub mod names;
@@ -8,7 +9,7 @@ pub mod tokens;
 pub mod truth;
 
 // What a token is as a number: how it is written, and its digits' value.
-#[derive(Drop)]
+#[derive(Clone, Copy)]
 pub enum Number {
     // Decimal digits.
     Decimal(u64),
@@ -21,14 +22,14 @@ pub enum Number {
 }
 
 // The prefix of a token: the base of the digits after it, and how many there may be; base 0 where a token has none.
-#[derive(Drop)]
+#[derive(Clone, Copy)]
 pub struct Prefix {
     pub base: u64,
     pub most: usize,
 }
 
 // Where a token stands in a line: its first byte, and the byte after its last.
-#[derive(Drop)]
+#[derive(Clone, Copy)]
 pub struct Span {
     pub start: usize,
     pub end: usize,

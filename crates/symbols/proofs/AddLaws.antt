@@ -27,7 +27,7 @@ record Stored (table after : List ℕ) (count bucket key start end : ℕ) : Type
   pub has_next : next_of after count ≡ head_of table bucket
   pub has_key : key_at after count ≡ key
   pub has_start : start_of after count ≡ start
-  pub has_end_lem : end_of after count ≡ end
+  pub has_end : end_of after count ≡ end
   pub others : (i : ℕ) → entry_at 0 ≤ i → i < entry_at count → get_or after i 0 ≡ get_or table i 0
   pub heads : (b : ℕ) → b < buckets → (head_of after b ≡ head_of table b) ⊎ ((head_of after b ≡ count + 1) × (b ≡ bucket))
   pub recents : (i : ℕ) → i < slots → (recent_of after i ≡ recent_of table i) ⊎ (recent_of after i ≡ count + 1)
@@ -72,7 +72,7 @@ module _ (table : List ℕ) (count next key start end : ℕ) where
             ∙ get_or-set_other two (at + 2) (at + 1) start 0 (λ e. omega arith)
             ∙ get_or-set_same one (at + 1) key 0 (simp length-set (omega arith));
         has_start = get_or-set_other three (at + 3) (at + 2) end 0 (λ e. omega arith) ∙ get_or-set_same two (at + 2) start 0 (simp length-set (omega arith));
-        has_end_lem = get_or-set_same three (at + 3) end 0 (simp length-set (omega arith));
+        has_end = get_or-set_same three (at + 3) end 0 (simp length-set (omega arith));
         others = λ i low high. before-kept i high;
         heads = λ b h. inl (before-kept b (omega arith));
         recents = λ i h. inl (before-kept (buckets + i) (omega arith));
@@ -133,7 +133,7 @@ module _ {table mid : List ℕ} {count bucket key start end : ℕ} (s : Stored t
         has_next = entry_kept at (omega arith) ∙ s.has_next;
         has_key = entry_kept (at + 1) (omega arith) ∙ s.has_key;
         has_start = entry_kept (at + 2) (omega arith) ∙ s.has_start;
-        has_end_lem = entry_kept (at + 3) (omega arith) ∙ s.has_end;
+        has_end = entry_kept (at + 3) (omega arith) ∙ s.has_end;
         others = λ i low high. entry_kept i low ∙ s.others i low high;
         heads = head_cases;
         recents = recent_cases;

@@ -2,7 +2,7 @@
 use Prim.Native.Nat.{ℕ, ◌+◌, ◌≤◌, ◌<◌}
 use mathlib.Core.Path.{◌≡◌, sym, ◌∙◌, ap, subst}
 use mathlib.Core.Logic.{◌⊎◌, inl, inr, ⊎_elim}
-use mathlib.Core.Bool.{Bool, true, false, ◌&&◌, and_false, false≢true}
+use mathlib.Core.Bool.{Bool, true, false, ◌&&◌, and-false, false≢true}
 use mathlib.Core.List.{List, []}
 use native.Mathlib.Omega.{arith}
 use lib.Dec.{ltb}
@@ -38,7 +38,7 @@ chain_ends table (there j e rest) q = omega arith
 module _ (source table : List ℕ) (below k : ℕ) (t : List ℕ) where
   -- It has another key, and so another name.
   pub other_key : (key : ℕ) → key ≡ key_of t → Entry source table k → (key_at table k ≡ key → ⊥) → false ≡ (ltb k below && same t (name_at source table k))
-  other_key key is e n = rw (other_same t (name_at source table k) (λ q. n (e.key ∙ sym (ap key_of q) ∙ sym is))) (sym (and_false (ltb k below)))
+  other_key key is e n = rw (other_same t (name_at source table k) (λ q. n (e.key ∙ sym (ap key_of q) ∙ sym is))) (sym (and-false (ltb k below)))
 
   -- Its name is the part from its start to its end.
   pub same-part : k < below → (r : Bool) → r ≡ same t (part source (start_of table k) (end_of table k)) → r ≡ (ltb k below && same t (name_at source table k))

@@ -1,4 +1,6 @@
 // Names looked up by a hash table with chains, in one slice of words that the caller lends. How the words stand in it is said in specs/Table.antt.
+#![tactic(auto)]
+
 ghost use Rattle.std.specs.Prelude.{◌≡◌, true, ◌&&◌, [], ◌∷◌, ◌++◌, ◌+◌, ◌^◌, ◌≤◌, ◌<◌, leb, ltb, length};
 ghost use Rattle.text.specs.Same.{same};
 ghost use Rattle.source.specs.Lookup.{is_among};

@@ -10,21 +10,21 @@ pub mod place;
 pub mod same;
 
 // What reading a numeral answers: its number, or that it is none.
-#[derive(Drop)]
+#[derive(Clone, Copy)]
 pub enum Numeral {
     Value(u64),
     NoNumeral,
 }
 
 // Digits that a number holds, the first in its low byte, and what is left of the number that they were taken from.
-#[derive(Drop)]
+#[derive(Clone, Copy)]
 pub struct Taken {
     pub held: u64,
     pub rest: u64,
 }
 
 // The number and the place of a call's first no, number 0 being none; and a count, 0 where the call has none.
-#[derive(Drop)]
+#[derive(Clone, Copy)]
 pub struct Outcome {
     pub number: u32,
     pub place: usize,

@@ -1,0 +1,37 @@
+// Intel HEX, read and written.
+ghost use Rattle.std.specs.Prelude.{length};
+ghost use Rattle.files.specs.Sizes.{data_words, disk_words, is_data_length, is_disk_length};
+ghost use Rattle.intel_hex.specs.Writing.{hex_text};
+ghost use Rattle.simp.specs.Files.{ReadsHex, Writes};
+
+// Reads Intel HEX into a data memory.
+#[unsafe(no_mangle)]
+pub extern "C" fn simp_read_hex_data(text: &[u8], memory: &mut [u32], place: &mut u64) -> u32
+    ensures { ReadsHex data_words text.now memory.old result memory.new place.new }
+{
+    simp::simp_read_hex_data(text, memory, place)
+}
+
+// Reads Intel HEX into a disk.
+#[unsafe(no_mangle)]
+pub extern "C" fn simp_read_hex_disk(text: &[u8], disk: &mut [u32], place: &mut u64) -> u32
+    ensures { ReadsHex disk_words text.now disk.old result disk.new place.new }
+{
+    simp::simp_read_hex_disk(text, disk, place)
+}
+
+// Writes a data memory as Intel HEX into the front of a text.
+#[unsafe(no_mangle)]
+pub extern "C" fn simp_write_hex_data(memory: &[u32], text: &mut [u8], count: &mut u64) -> u32
+    ensures { Writes (is_data_length (length memory.now)) (hex_text memory.now) text.old result text.new count.new }
+{
+    simp::simp_write_hex_data(memory, text, count)
+}
+
+// Writes a disk as Intel HEX into the front of a text.
+#[unsafe(no_mangle)]
+pub extern "C" fn simp_write_hex_disk(disk: &[u32], text: &mut [u8], count: &mut u64) -> u32
+    ensures { Writes (is_disk_length (length disk.now)) (hex_text disk.now) text.old result text.new count.new }
+{
+    simp::simp_write_hex_disk(disk, text, count)
+}

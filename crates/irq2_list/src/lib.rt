@@ -1,10 +1,12 @@
 // The irq2 list: whether it rises, the place that belongs to an age, and what a run waits for.
+#![tactic(auto)]
+
 ghost use Rattle.std.specs.Prelude.{◌≡◌, true, cond, ◌+◌, ◌^◌, ◌<◌, eqb};
 ghost use Rattle.files.specs.Irq2File.{rising};
 ghost use Rattle.irq2_list.specs.Places.{PlaceOf, awaited_at};
 
 // The entry of the irq2 list that a run waits for: its place, and the cycle that stands there, or one that never comes.
-#[derive(Drop)]
+#[derive(Clone, Copy)]
 pub struct Awaited {
     pub place: usize,
     pub cycle: u64,

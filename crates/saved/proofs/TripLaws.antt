@@ -1,5 +1,5 @@
 -- Return trips of the saved record: both editions are formats, so bitpack's FormatLaws say it. Assumes nothing.
-use Prim.Native.Nat.{ℕ, ◌-◌, ◌<◌}
+use Prim.Native.Nat.{ℕ}
 use mathlib.Core.Path.{◌≡◌, refl, sym, ◌∙◌, ap}
 use mathlib.Core.Bool.{Bool, true, false, not, ◌&&◌, ◌||◌, false≢true}
 use mathlib.Core.List.{List, [], ◌∷◌, ◌++◌}
@@ -13,10 +13,9 @@ use Rattle.text.proofs.QuestionLaws.{first_yes}
 use Rattle.text.proofs.Truth.{and_left, and_right}
 use Rattle.bitpack.specs.Packed.{fit}
 use Rattle.bitpack.specs.Needs.{Packs}
-use Rattle.bitpack.specs.Format.{Format, Inverse, last_of, fields_in, edition_in, last_in, record_in, bytes_of_record}
+use Rattle.bitpack.specs.Format.{Format, Inverse, fields_in, edition_in, last_in, record_in, bytes_of_record}
 use Rattle.bitpack.proofs.FormatLaws.{length-saved as length-any, length_fields, packs as packs-any, fields_back, edition-back, last-back, record_back, same_bytes as same-any, fields_kept, read-fit as read-fit-any, bytes_back}
-use Rattle.devices.specs.declared.Drive.{Drive}
-use Rattle.devices.specs.Bus.{drive_of, free_drive}
+use Rattle.devices.specs.Bus.{drive_of}
 use Rattle.isa.specs.Registers.{io_bits}
 use Rattle.machine.specs.declared.Record.{Record}
 use Rattle.machine.specs.Soundness.{Sound}

@@ -4,8 +4,6 @@ use Rattle.text.specs.declared.Outcome.{Outcome}
 use Rattle.text.specs.Questions.{accepted, refused}
 use Rattle.saved.specs.declared.Saved.{Saved}
 use Rattle.saved.specs.declared.LoadAnswer.{LoadAnswer}
-use Rattle.saved.specs.declared.Saved.TheVariants as Saved
-use Rattle.saved.specs.declared.LoadAnswer.TheVariants as LoadAnswer
 
 abbrev pub saved_outcome : Saved → Outcome
 saved_outcome Saved.Done = accepted 0

@@ -1,4 +1,6 @@
 // The simulator: one cycle of the machine on lent memories, with its log lines.
+#![tactic(auto)]
+
 use machine::Core;
 
 pub mod cycle;

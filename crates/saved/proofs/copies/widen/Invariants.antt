@@ -1,9 +1,7 @@
 use Prim.Native.Nat.{◌-◌}
-use mathlib.Core.Path.{◌≡◌, refl}
-use native.Mathlib.Omega.{arith}
-use lib.ListN.{length, length-set}
-use borrow.Author.Rules.{rules}
-use Rattle.text.proofs.CopyLaws.{Copying, begun, turned, finished}
+use mathlib.Core.Path.{◌≡◌}
+use lib.ListN.{length}
+use Rattle.text.proofs.CopyLaws.{Copying}
 use Rattle.saved.proofs.copies.widen.Given as goal
 
 abbrev pub invariant-loop-i : goal.invariant-loop-i

@@ -6,10 +6,9 @@ use Rattle.saved.proofs.PartLaws.{other_io}
 use borrow.Author.Rules.{rules}
 use Rattle.saved.proofs.fields.fields.Goals as goal
 
--- src/fields.rt:15:1
 pub returns : goal.returns
 unfolding fields_of
 returns c =
     let regs_13 : length c.args.r.regs ≡ 13 = search rules in
-    let put_13 : length c.widen.new.1.0 ≡ 13 = rw c.widen.ensures (regs_13) in
-    rw (other_io c.widen.new.1.0 (put_13) c.widen-2.new.1.0, c.widen.ensures, c.widen-2.ensures)
+    let put_13 : length c.widen.new.to ≡ 13 = rw c.widen.ensures (regs_13) in
+    rw (other_io c.widen.new.to (put_13) c.widen-2.new.to, c.widen.ensures, c.widen-2.ensures)

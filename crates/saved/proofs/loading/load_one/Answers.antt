@@ -5,7 +5,7 @@ use mathlib.Core.Bool.{true, ◌||◌}
 use mathlib.Core.List.{List}
 use lib.Dec.{eqb}
 use lib.ListN.{length, get_or}
-use borrow.Author.Tests.{not-true, not-false, eq-eqb, ne_eqb}
+use borrow.Author.Tests.{eq-eqb, ne_eqb}
 use Rattle.isa.specs.Registers.{io_bits}
 use Rattle.bitpack.specs.Packed.{fit}
 use Rattle.bitpack.specs.Format.{fields_in}
@@ -21,49 +21,39 @@ use Rattle.saved.proofs.loading.load_one.Goals as goal
 known : (b : List ℕ) → length b ≡ 91 → (eqb (length b) 91 || eqb (length b) 94) ≡ true
 known b size = rw size refl
 
--- src/loading.rt:65:9
 pub returns-then-f-ne-EDITION_ONE : goal.returns-then-f-ne-EDITION_ONE
-unfolding fields_in widths_one io_bits
 returns-then-f-ne-EDITION_ONE c =
-    let fields_are : c.unpack.new.1.1.0 ≡ fields_in edition_one c.args.bytes.now = c.unpack.ensures in
+    let fields_are : c.unpack.new.values ≡ fields_in edition_one c.args.bytes.now = unfold fields_in widths_one io_bits in c.unpack.ensures in
     load_edition c.args.bytes.now edition_one (format_one c.args.bytes.now c.requires) (known c.args.bytes.now c.requires) (rw (← fields_are) (ne_eqb _ 1 c.if-f-ne-EDITION_ONE.true)) _ c.refused.ensures
 
--- src/loading.rt:67:9
 pub record_one-state-requires : goal.record_one-state-requires
-unfolding fields_in widths_one io_bits
 record_one-state-requires c =
-    let fields_are : c.unpack.new.1.1.0 ≡ fields_in edition_one c.args.bytes.now = c.unpack.ensures in
+    let fields_are : c.unpack.new.values ≡ fields_in edition_one c.args.bytes.now = unfold fields_in widths_one io_bits in c.unpack.ensures in
     ap (λ (f : List ℕ). fit widths_one f) (fields_are) ∙ fields_fit edition_one c.args.bytes.now
 
--- src/loading.rt:69:9
 pub returns-then-not-is_sound : goal.returns-then-not-is_sound
-unfolding fields_in widths_one io_bits
 returns-then-not-is_sound c =
-    let fields_are : c.unpack.new.1.1.0 ≡ fields_in edition_one c.args.bytes.now = c.unpack.ensures in
+    let fields_are : c.unpack.new.values ≡ fields_in edition_one c.args.bytes.now = unfold fields_in widths_one io_bits in c.unpack.ensures in
     let record_is : c.record_one-state.result ≡ record_one (fields_in edition_one c.args.bytes.now) = c.record_one-state.ensures ∙ ap (λ (f : List ℕ). record_one f) (fields_are) in
     let sound-is : is_sound (record_one (fields_in edition_one c.args.bytes.now)) ≡ c.is_sound.result = sym (c.is_sound.ensures ∙ ap (λ (r : Record). is_sound r) (record_is)) in
     let edition-is : eqb (get_or (fields_in edition_one c.args.bytes.now) 0 0) 1 ≡ true = rw (← fields_are) (eq-eqb _ 1 c.if-f-ne-EDITION_ONE.false) in
-    let no = one-sound c.args.bytes.now ∙ sound-is ∙ not-true c.is_sound.result c.if-not-is_sound.true in
+    let no = one-sound c.args.bytes.now ∙ sound-is ∙ c.if-not-is_sound.true in
     load_unsound c.args.bytes.now edition_one (format_one c.args.bytes.now c.requires) (known c.args.bytes.now c.requires) (edition-is) no _ c.refused-then-not-is_sound.ensures
 
--- src/loading.rt:72:9
 pub returns-then-f-ne0 : goal.returns-then-f-ne0
-unfolding fields_in widths_one io_bits
 returns-then-f-ne0 c =
-    let fields_are : c.unpack.new.1.1.0 ≡ fields_in edition_one c.args.bytes.now = c.unpack.ensures in
+    let fields_are : c.unpack.new.values ≡ fields_in edition_one c.args.bytes.now = unfold fields_in widths_one io_bits in c.unpack.ensures in
     let record_is : c.record_one-state.result ≡ record_one (fields_in edition_one c.args.bytes.now) = c.record_one-state.ensures ∙ ap (λ (f : List ℕ). record_one f) (fields_are) in
     let sound-is : is_sound (record_one (fields_in edition_one c.args.bytes.now)) ≡ c.is_sound.result = sym (c.is_sound.ensures ∙ ap (λ (r : Record). is_sound r) (record_is)) in
     let edition-is : eqb (get_or (fields_in edition_one c.args.bytes.now) 0 0) 1 ≡ true = rw (← fields_are) (eq-eqb _ 1 c.if-f-ne-EDITION_ONE.false) in
-    let yes = one-sound c.args.bytes.now ∙ sound-is ∙ not-false c.is_sound.result c.if-not-is_sound.false in
+    let yes = one-sound c.args.bytes.now ∙ sound-is ∙ c.if-not-is_sound.false in
     load_busy c.args.bytes.now edition_one (format_one c.args.bytes.now c.requires) (known c.args.bytes.now c.requires) (edition-is) yes (one-busy c.args.bytes.now (rw (← fields_are) c.if-f-ne0.true)) _ c.refused-then-f-ne0.ensures
 
--- src/loading.rt:58:1
 pub returns : goal.returns
-unfolding fields_in widths_one io_bits
 returns c =
-    let fields_are : c.unpack.new.1.1.0 ≡ fields_in edition_one c.args.bytes.now = c.unpack.ensures in
+    let fields_are : c.unpack.new.values ≡ fields_in edition_one c.args.bytes.now = unfold fields_in widths_one io_bits in c.unpack.ensures in
     let record_is : c.record_one-state.result ≡ record_one (fields_in edition_one c.args.bytes.now) = c.record_one-state.ensures ∙ ap (λ (f : List ℕ). record_one f) (fields_are) in
     let sound-is : is_sound (record_one (fields_in edition_one c.args.bytes.now)) ≡ c.is_sound.result = sym (c.is_sound.ensures ∙ ap (λ (r : Record). is_sound r) (record_is)) in
     let edition-is : eqb (get_or (fields_in edition_one c.args.bytes.now) 0 0) 1 ≡ true = rw (← fields_are) (eq-eqb _ 1 c.if-f-ne-EDITION_ONE.false) in
-    let yes = one-sound c.args.bytes.now ∙ sound-is ∙ not-false c.is_sound.result c.if-not-is_sound.false in
+    let yes = one-sound c.args.bytes.now ∙ sound-is ∙ c.if-not-is_sound.false in
     load_loaded c.args.bytes.now edition_one (format_one c.args.bytes.now c.requires) (known c.args.bytes.now c.requires) (edition-is) yes (one_free c.args.bytes.now (rw (← fields_are) c.if-f-ne0.false)) _ (record_is)

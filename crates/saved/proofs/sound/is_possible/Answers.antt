@@ -8,7 +8,6 @@ use Rattle.saved.specs.Sound.{is_sound}
 use borrow.Author.Rules.{rules}
 use Rattle.saved.proofs.sound.is_possible.Goals as goal
 
--- src/sound.rt:38:9
 pub returns-then-c-gt-MOST_STATUS : goal.returns-then-c-gt-MOST_STATUS
 unfolding is_sound
 returns-then-c-gt-MOST_STATUS c =
@@ -16,7 +15,6 @@ returns-then-c-gt-MOST_STATUS c =
     let io_23 : eqb (length c.args.r.io) 23 ≡ true = let e : length c.args.r.io ≡ 23 = search rules in eq-eqb _ 23 e in
     rw (regs_13, io_23, c.requires, lt-leb c.args.r.core.status 5 c.if-c-gt-MOST_STATUS.true)
 
--- src/sound.rt:30:1
 pub returns : goal.returns
 unfolding is_sound
 returns c =

@@ -1,4 +1,6 @@
 // The lines that follow a log, or stand for one: E after a run, N for a file that is refused.
+#![tactic(auto)]
+
 mod fields;
 mod lines;
 mod time;

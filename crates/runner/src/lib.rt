@@ -1,4 +1,6 @@
 // Runs: cycles of the machine on lent memories, with their log lines. What a run does, and demand 3, stand in specs/ and proofs/.
+#![tactic(auto)]
+
 use machine::{Core, Record};
 
 mod answers;

@@ -23,7 +23,7 @@ returns-then-not-may_cycle c =
     let l = c.loop-c in
     let e = c.ended.ensures in
     let may = c.may_cycle in
-    ends_there a.image.now a.irq2.now (packed a.start a.regs.now a.io.now a.memory.now a.disk.now a.frame.now) a.budget a.log.now p.sound.1 (l.c.age - a.start.age) l.at l.awaited.place (packed l.c l.regs l.io l.memory l.disk l.frame) l.log l.invariant.0 c.is_awaited-hit.result (hit_at c.is_awaited-hit.result l.c.age l.awaited.place l.awaited.cycle a.irq2.now (omega (arith, l.invariant.1.sound.core.age)) l.invariant.8 c.is_awaited-hit.ensures) may.result (c.if-not-may_cycle.true) (may.ensures l.memory l.disk l.frame) c.ended.result _ (ap (λ (x : Core). packed x l.regs l.io l.memory l.disk l.frame) e.core_value.0) e.core_value.1.0 e.core_value.1.1 e.answer_value.0 e.answer_value.1
+    ends_there a.image.now a.irq2.now (packed a.start a.regs.now a.io.now a.memory.now a.disk.now a.frame.now) a.budget a.log.now p.sound.1 (l.c.age - a.start.age) l.at l.awaited.place (packed l.c l.regs l.io l.memory l.disk l.frame) l.log l.invariant.0 c.is_awaited-hit.result (hit_at c.is_awaited-hit.result l.c.age l.awaited.place l.awaited.cycle a.irq2.now (omega (arith, l.invariant.1.sound.core.age)) l.invariant.8 c.is_awaited-hit.ensures) may.result c.if-not-may_cycle.true (may.ensures l.memory l.disk l.frame) c.ended.result _ (ap (λ (x : Core). packed x l.regs l.io l.memory l.disk l.frame) e.core_value.0) e.core_value.1.0 e.core_value.1.1 e.answer_value.0 e.answer_value.1
 
 pub loop-c-smaller : goal.loop-c-smaller
 loop-c-smaller c =
@@ -50,7 +50,7 @@ loop-c-preserved c =
     let aged = older a.image.now hit.result (packed l.c l.regs l.io l.memory l.disk l.frame) (packed e.result.core e.new.regs e.new.io e.new.memory e.new.disk e.new.frame) l.log e.new.log l.at e.result.at e.ensures.at_after in
     let from = i.6 in
     let counted : e.result.core.age - a.start.age ≡ l.c.age - a.start.age + 1 = omega (arith, aged, from) in
-    let round = goes_round a.image.now a.irq2.now (packed a.start a.regs.now a.io.now a.memory.now a.disk.now a.frame.now) a.budget a.log.now p.sound.1 (l.c.age - a.start.age) l.at l.awaited.place (packed l.c l.regs l.io l.memory l.disk l.frame) l.log l.invariant.0 hit.result here may.result (c.if-not-may_cycle.false) (may.ensures l.memory l.disk l.frame) (omega (arith, below, last.1.0, from)) (packed e.result.core e.new.regs e.new.io e.new.memory e.new.disk e.new.frame) e.new.log e.result.at e.ensures.at_after c.next_awaited-awaited.result.place c.next_awaited-awaited.ensures.0 in
+    let round = goes_round a.image.now a.irq2.now (packed a.start a.regs.now a.io.now a.memory.now a.disk.now a.frame.now) a.budget a.log.now p.sound.1 (l.c.age - a.start.age) l.at l.awaited.place (packed l.c l.regs l.io l.memory l.disk l.frame) l.log l.invariant.0 hit.result here may.result c.if-not-may_cycle.false (may.ensures l.memory l.disk l.frame) (omega (arith, below, last.1.0, from)) (packed e.result.core e.new.regs e.new.io e.new.memory e.new.disk e.new.frame) e.new.log e.result.at e.ensures.at_after c.next_awaited-awaited.result.place c.next_awaited-awaited.ensures.0 in
     let same : length e.new.log ≡ length l.log = omega (arith, e.auto) in
     let z = next.sized in
     let y = i.1.sized in

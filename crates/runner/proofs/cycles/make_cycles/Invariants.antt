@@ -1,17 +1,11 @@
-use Prim.Native.Nat.{◌^◌, ◌+◌, ◌-◌, ◌≤◌, ◌<◌}
-use mathlib.Core.Path.{◌≡◌, refl, sym, ◌∙◌, ap}
-use native.Mathlib.Omega.{arith}
+use Prim.Native.Nat.{◌-◌, ◌≤◌}
+use mathlib.Core.Path.{◌≡◌}
 use lib.ListN.{length}
-use borrow.Author.Tests.{not-true, not-false}
-use borrow.Author.Rules.{rules}
-use Rattle.machine.specs.declared.Core.{Core}
 use Rattle.trace.specs.Prefixes.{IsPrefix}
-use Rattle.trace.proofs.PrefixLaws.{no_prefix}
 use Rattle.executor.specs.Lent.{packed}
 use Rattle.irq2_list.specs.Places.{awaited_at}
-use Rattle.irq2_list.proofs.PlaceLaws.{hit_at}
-use Rattle.runner.proofs.TurnLaws.{Turning, turn}
-use Rattle.runner.proofs.GoLaws.{Under, sets_out, ends_last, ends_there, has_room_lem, goes_round, older}
+use Rattle.runner.proofs.TurnLaws.{Turning}
+use Rattle.runner.proofs.GoLaws.{Under}
 use Rattle.runner.proofs.cycles.make_cycles.Given as goal
 
 abbrev pub invariant-loop-c : goal.invariant-loop-c

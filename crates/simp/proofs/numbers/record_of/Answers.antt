@@ -23,11 +23,11 @@ pub returns-then-not-all_fit : goal.returns-then-not-all_fit
 unfolding widths io_bits
 returns-then-not-all_fit c =
     let is = put_fields c.args.numbers.now c.requires _ _ c.copy_long_words.ensures c.copy_long_words-2.ensures in
-    inr (c.unsound_record.ensures, too_wide c.args.numbers.now c.requires (ap (λ (f : List ℕ). fit widths f) (sym is) ∙ sym c.all_fit.ensures ∙ not-true c.all_fit.result c.if-not-all_fit.true))
+    inr (c.unsound_record.ensures, too_wide c.args.numbers.now c.requires (ap (λ (f : List ℕ). fit widths f) (sym is) ∙ sym c.all_fit.ensures ∙ c.if-not-all_fit.true))
 
 pub record_of-requires : goal.record_of-requires
 unfolding widths io_bits
-record_of-requires c = sym c.all_fit.ensures ∙ not-false c.all_fit.result c.if-not-all_fit.false
+record_of-requires c = sym c.all_fit.ensures ∙ c.if-not-all_fit.false
 
 pub returns : goal.returns
 returns c =

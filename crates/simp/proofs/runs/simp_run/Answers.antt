@@ -24,7 +24,7 @@ returns c =
     (eq-eqb _ 40 c.if-numbers-ne-RECORD_NUMBERS.false)
     _
     c.record_of.ensures
-    (done_of r.result a.image.now r.new.1.1.0 r.new.1.1.1.0 r.new.1.1.1.1.0 r.new.1.1.1.1.1.1.1.0)
+    (done_of r.result a.image.now r.new.memory r.new.disk r.new.frame r.new.log)
     r.ensures
     c.outcome-outcome.result
     c.outcome-outcome.ensures

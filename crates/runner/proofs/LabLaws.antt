@@ -9,12 +9,11 @@ use lib.ListN.{length, drop, length-map, drop_of_length-le}
 use borrow.Author.Tests.{eqb-true, eqb-false, leb-true, eq-eqb, ne_eqb, le-leb, lt-ltb}
 use Rattle.text.specs.declared.Outcome.{Outcome}
 use Rattle.text.specs.Questions.{accepted, first_no}
-use Rattle.text.specs.Lines.{lines}
 use Rattle.text.proofs.PutLaws.{put_front}
 use Rattle.text.proofs.QuestionLaws.{first_yes}
 use Rattle.text.proofs.RangeLaws.{below_part, below_mod}
 use Rattle.files.specs.Sizes.{image_words, disk_words, sector_words, disk_sectors, image_digits, word_digits, frame_digits, is_disk_part, is_part_length, is_data_length, is_frame_length, is_image_length}
-use Rattle.files.specs.MemoryFile.{low48, file_text, file_words, sectors_of}
+use Rattle.files.specs.MemoryFile.{low48, file_text, sectors_of}
 use Rattle.files.specs.MemoryFile.{write_outcome as file_writes, read_outcome as file_reads}
 use Rattle.files.specs.Irq2File.{rising}
 use Rattle.files.proofs.PutLaws.{length-text}
@@ -55,7 +54,7 @@ good-fresh w f =
     record {
       image_size = f.image;
       sound = subst (λ (m : Machine). Sound m.core m.regs m.io) (sym f.record_is) sound-fresh;
-      sized = record { memory_size = f.data_words_lem; disk_size = f.disk-words; frame_size = f.frame-bytes };
+      sized = record { memory_size = f.memory_words; disk_size = f.disk-words; frame_size = f.frame-bytes };
       fits = record { memory = f.memory-fits; disk = f.disk-fits; frame = f.frame-fits };
     }
 

@@ -16,7 +16,6 @@ use Rattle.claim.specs.Calls.{none, Done, run_from, run_outcome, ran, run_call}
 use Rattle.runner.specs.declared.Ended.{Ended}
 use Rattle.runner.specs.declared.RunAnswer.{RunAnswer}
 use Rattle.runner.specs.declared.RunReport.{RunReport}
-use Rattle.runner.specs.declared.RunAnswer.TheVariants as RunAnswer
 use Rattle.runner.specs.Lab.{simp, lab, code_of, record_in, machine_of, standing_of, are_lengths, Standing}
 use Rattle.runner.specs.Answers.{ran_outcome, ran_reason, done_of, EndsRun}
 

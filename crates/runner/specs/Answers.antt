@@ -10,7 +10,6 @@ use Rattle.runner.specs.declared.RunReport.{RunReport}
 use Rattle.runner.specs.declared.RunAnswer.{RunAnswer}
 use Rattle.runner.specs.declared.Ended.{Ended}
 use Rattle.runner.specs.Lab.{Code, simp, lab, machine_of}
-use Rattle.runner.specs.declared.RunAnswer.TheVariants as RunAnswer
 
 -- "All: are the lent lengths those above (..)? 1." "Run: irq2 list strictly rising? 12. Record sound? 13."
 abbrev pub ran_outcome : RunAnswer → Outcome

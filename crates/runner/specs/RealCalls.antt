@@ -15,7 +15,7 @@ use Rattle.saved.specs.Answers.{saved_outcome, loaded_outcome}
 use Rattle.saved.specs.Calls.{save_outcome, save_bytes, load_outcome, load_record}
 use Rattle.claim.specs.Calls.{Call, run, run_other, trip, trip_other, halves, Done, run_outcome, run_call, tripped, standing}
 use Rattle.runner.specs.declared.RunReport.{RunReport}
-use Rattle.runner.specs.Lab.{lab, Standing, standing_of, Kind, the_record, the_image, the_data, the_frame, the_sectors, Carried, part, place, write_outcome, text_of, read_outcome, SameLength}
+use Rattle.runner.specs.Lab.{lab, Standing, Kind, the_record, the_image, the_data, the_frame, the_sectors, Carried, part, place, write_outcome, text_of, read_outcome, SameLength}
 use Rattle.runner.specs.Answers.{done_of}
 
 -- A writer is lent `out` and `space`, which is `sent` then; where it is accepted, a reader reads what was written into `into`, which is `after` then.

@@ -27,7 +27,6 @@ use Rattle.saved.specs.Calls.{fresh_record, save_outcome, save_bytes, load_outco
 use Rattle.claim.specs.Calls.{Call, Done}
 use Rattle.runner.specs.Lab.{lab, Standing}
 use Rattle.runner.specs.RealCalls.{by_record, by_sectors, Made, trip_done_by}
-use Rattle.files.specs.declared.FileRead.TheVariants as FileRead
 use Rattle.saved.specs.declared.LoadAnswer.TheVariants as LoadAnswer
 use Rattle.worked_examples.specs.declared.RecordTrip.{RecordTrip}
 use Rattle.worked_examples.specs.StopAndResume.{RecordReturns, SectorReturns}

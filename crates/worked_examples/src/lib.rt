@@ -1,5 +1,7 @@
 // Document 01's proved examples and the mistakes it excludes, each computed: definitions and theorems, in specs/. And one list of real calls, with what
 // demand 3 says of it: a run that is stopped and resumed.
+#![tactic(auto)]
+
 use machine::Record;
 use runner::RunReport;
 use text::Outcome;

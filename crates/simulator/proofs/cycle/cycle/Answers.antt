@@ -50,7 +50,7 @@ end_cycle-requires c =
     let z = p.image_len.1.1.1.0 in
     let all = t.all in
     let d = t.disk in
-    (subst (λ (y : Machine). a.c.drive.left ≤ y.core.drive.left) (sym x) left, (t.core.age, record { all = omega arith; left = d.left; buffer-fits = omega (arith, d.buffer, z.memory_size, c.memory-1.given); sector-fits = omega (arith, d.sector, z.disk_size) }))
+    (subst (λ (y : Machine). a.c.drive.left ≤ y.core.drive.left) (sym x) left, (t.core.age, record { all = omega arith; left = d.left; buffer-fits = omega (arith, d.buffer, z.memory_size); sector-fits = omega (arith, d.sector, z.disk_size) }))
 
 pub returns-clause-at_after : goal.returns-clause-at_after
 returns-clause-at_after c =

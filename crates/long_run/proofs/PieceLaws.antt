@@ -131,7 +131,7 @@ module _ (image irq2 memory disk frame log : List ℕ) (state : Record) (budget 
                 machine ∙ run_ends simp (code_of image irq2) start budget (length log) _ _ exact last,
                 lines ∙ run_says simp (code_of image irq2) start budget (length log) _ _ exact last,
               );
-          over = λ other. rw machine (over-or_spent simp (code_of image irq2) start budget (length log) _ _ exact (eqb-false (ran_reason r.answer) 2 other));
+          over = λ other. subst (λ (x : Machine). (is_over simp x ≡ true) ⊎ (r.cycles ≡ budget)) (sym machine) (over-or_spent simp (code_of image irq2) start budget (length log) _ _ exact (eqb-false (ran_reason r.answer) 2 other));
         }
 
 -- ---- one run after the other

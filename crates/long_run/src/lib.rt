@@ -1,4 +1,6 @@
 // Runs whose log goes out in pieces, and the lines E and N that follow a log or stand for one.
+#![tactic(auto)]
+
 use console::Writing;
 use machine::Record;
 

@@ -50,7 +50,7 @@ module _ (source image memory : List ℕ) (r : Bool) (is : r ≡ (leb (length so
       record {
         answer = rw (← is, e);
         words = refl;
-        data_words_lem = refl;
+        memory_words = refl;
         high_bits = λ q. let n : ◌≡◌ {A = ℕ} 1 0 = ap (λ (t : Outcome). t.number) q in absurd (omega arith);
       }
 
@@ -66,9 +66,9 @@ module _ (source image memory : List ℕ) (r : Bool) (is : r ≡ (leb (length so
 -- ---- a source that is too long
 
 -- It is refused, whatever its bytes, ..
-pub long_refused : (source : List ℕ) (image data_words_lem : ℕ) → most_source < length source → assemble_outcome source image data_words_lem ≡ refused 1 0
+pub long_refused : (source : List ℕ) (image memory_words : ℕ) → most_source < length source → assemble_outcome source image memory_words ≡ refused 1 0
 unfolding assemble_outcome
-long_refused source image data_words_lem long = rw (lt-leb (length source) most_source long)
+long_refused source image memory_words long = rw (lt-leb (length source) most_source long)
 
 -- .. so two such sources are assembled alike.
 pub long_alike : (a b image memory : List ℕ) {r : Assembled} {image_after memory_after : List ℕ} → most_source < length a → most_source < length b
@@ -78,7 +78,7 @@ long_alike a b image memory long-a long-b p =
     record {
       answer = no ∙ sym (long_refused b (length image) (length memory) long-b);
       words = rw no at p.words ∙ rw no;
-      data_words_lem = rw no at p.data_words_lem ∙ rw no;
+      memory_words = rw no at p.memory_words ∙ rw no;
       high_bits = p.high_bits;
     }
 
@@ -86,7 +86,7 @@ long_alike a b image memory long-a long-b p =
 
 -- With right lengths, both passes over a text tell what is answered.
 module _ (source image memory : List ℕ) (s : length source ≤ most_source) (i : length image ≡ image_words) (m : length memory ≡ data_words)
-    (t : Refusal) (words data_words_lem : List ℕ) (outcome : Translated source t words data_words_lem) where
+    (t : Refusal) (words memory_words : List ℕ) (outcome : Translated source t words memory_words) where
   text-outcome : text_outcome source ≡ assemble_outcome source (length image) (length memory)
   unfolding assemble_outcome
   text-outcome = rw (le-leb (length source) most_source s, i, m)
@@ -97,16 +97,16 @@ module _ (source image memory : List ℕ) (s : length source ≤ most_source) (i
       record {
         answer = q ∙ sym (outcome.some n) ∙ text-outcome;
         words = rw (q, ne_eqb t.number 0 n);
-        data_words_lem = rw (q, ne_eqb t.number 0 n);
+        memory_words = rw (q, ne_eqb t.number 0 n);
         high_bits = λ z. absurd (n (ap (λ (x : Outcome). x.number) (sym q ∙ z)));
       }
 
   -- None is.
-  pub text-good : t.number ≡ 0 → (image_after memory_after : List ℕ) → image_after ≡ words → memory_after ≡ data_words_lem → Assembling source image memory Done image_after memory_after
+  pub text-good : t.number ≡ 0 → (image_after memory_after : List ℕ) → image_after ≡ words → memory_after ≡ memory_words → Assembling source image memory Done image_after memory_after
   text-good n image_after memory_after a b =
       record {
         answer = sym (outcome.none n) ∙ text-outcome;
         words = a ∙ outcome.code n;
-        data_words_lem = b ∙ outcome.stores n;
+        memory_words = b ∙ outcome.stores n;
         high_bits = λ z. rw a outcome.high_bits;
       }

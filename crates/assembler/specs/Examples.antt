@@ -107,10 +107,10 @@ unfolding word
 immediates = refl
 
 -- "data -2^31 to 2^32-1", in 32 bits; A8: `-0` as an address.
-data_words_lem : take 6 (words ".word -0 5\n.word 1 4294967295\n.word 2 -2147483648\n.word 0x3 0xABCDEF09\n.word 0004 -1\n")
+memory_words : take 6 (words ".word -0 5\n.word 1 4294967295\n.word 2 -2147483648\n.word 0x3 0xABCDEF09\n.word 0004 -1\n")
     ≡ 5 ∷ 0xFFFFFFFF ∷ 0x80000000 ∷ 0xABCDEF09 ∷ 0xFFFFFFFF ∷ 0 ∷ []
 unfolding words
-data_words_lem = refl
+memory_words = refl
 
 -- B4: binary numbers in both immediates, as an address and as data.
 binary_immediates : word (bytes "add $zero, $zero, $zero, $zero, 0b1010, 0b111111111111") ≡ 0x00000000AFFF

@@ -11,6 +11,6 @@ use Rattle.assembler.specs.Memories.{assembled_image, assembled_data}
 pub record Assembling (source image memory : List ℕ) (r : Assembled) (image_after memory_after : List ℕ) : Type 0 where
   pub answer : assembled_outcome r ≡ assemble_outcome source (length image) (length memory)
   pub words : image_after ≡ unless_refused (assembled_outcome r) (assembled_image source) image
-  pub data_words_lem : memory_after ≡ unless_refused (assembled_outcome r) (assembled_data source) memory
+  pub memory_words : memory_after ≡ unless_refused (assembled_outcome r) (assembled_data source) memory
   -- "bits above 47 are not read": those of a word that the assembler writes are 0.
   pub high_bits : assembled_outcome r ≡ accepted 0 → Below (2 ^ 48) image_after

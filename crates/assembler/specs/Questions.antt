@@ -14,6 +14,6 @@ text_outcome source =
     first_bad (λ i line. line_questions all (take i all) line) 0 all (accepted 0)
 
 -- "are the lent lengths those above (source up to 262,144 bytes ..)? 1", then the lines'.
-unfoldable pub assemble_outcome : (source : List ℕ) (image data_words_lem : ℕ) → Outcome
-assemble_outcome source image data_words_lem =
-    first_no ((1, leb (length source) most_source && is_image_length image && is_data_length data_words_lem) ∷ []) 0 (text_outcome source)
+unfoldable pub assemble_outcome : (source : List ℕ) (image memory_words : ℕ) → Outcome
+assemble_outcome source image memory_words =
+    first_no ((1, leb (length source) most_source && is_image_length image && is_data_length memory_words) ∷ []) 0 (text_outcome source)

@@ -38,8 +38,8 @@ module _ (source image : List ℕ) {lent-image lent-memory again memory : List �
     accepted_so =
         let good = eq-eqb t.number 0 none in
         let words : again ≡ assembled_image source = assembled.words ∙ rw (← says, good) in
-        let data_words_lem : memory ≡ assembled_data source = assembled.data_words_lem ∙ rw (← says, good) in
-        rw (← told, good, ← data_words_lem, ← words, ← asked)
+        let memory_words : memory ≡ assembled_data source = assembled.memory_words ∙ rw (← says, good) in
+        rw (← told, good, ← memory_words, ← words, ← asked)
 
     pub data_differ : z ≡ false → false ≡ is_image_of source image
     data_differ e = sym (accepted_so ∙ rw e)

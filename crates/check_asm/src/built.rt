@@ -17,14 +17,16 @@ pub fn try_built(rt: HostRuntime) {
 fn try_full_image(rt: HostRuntime) {
     let halt = b"halt $zero,$zero,$zero,$zero,0,0\n";
     try_repeated(rt, b"A19_4096_instructions", b"", halt, 4096, b"");
-    try_repeated(rt,
+    try_repeated(
+        rt,
         b"A19_empty_comment_word_after",
         b"",
         halt,
         4096,
         b"\n# a comment\n.word 7 8\n \t\n",
     );
-    try_repeated(rt,
+    try_repeated(
+        rt,
         b"A19_label_at_4095",
         b"",
         halt,
@@ -40,7 +42,8 @@ fn try_past_full_image(rt: HostRuntime) {
     try_repeated(rt, b"A18_used_label_at_4096", uses, halt, 4095, b"L:\n");
     try_repeated(rt, b"A19_label_at_4096", b"", halt, 4096, b"L:\n");
     try_repeated(rt, b"A19_4097_instructions", b"", halt, 4097, b"");
-    try_repeated(rt,
+    try_repeated(
+        rt,
         b"A19_4_before_8",
         b"",
         halt,
@@ -48,7 +51,8 @@ fn try_past_full_image(rt: HostRuntime) {
         b"foo $zero,$zero,$zero,$zero,0,0\n",
     );
     try_repeated(rt, b"A19_7_before_8", b"", halt, 4096, uses);
-    try_repeated(rt,
+    try_repeated(
+        rt,
         b"C05_5_before_8",
         b"",
         halt,
@@ -62,7 +66,8 @@ fn try_longest(rt: HostRuntime) {
     let comment = b"#23456789abcdef\n";
     try_repeated(rt, b"A21_262144_bytes", b"", comment, 16384, b"");
     try_repeated(rt, b"A21_262145_bytes", b"", comment, 16384, b"\n");
-    try_repeated(rt,
+    try_repeated(
+        rt,
         b"A21_1_before_3",
         b"foo\n",
         comment,

@@ -1,7 +1,7 @@
 // Texts in files.
-use console::{NAME, argument, open_read, read_full};
 use crate::print::print_missing;
 use crate::trial::try_text;
+use console::{NAME, argument, open_read, read_full};
 
 // The longest source, and one byte more: what a longer file has after them changes nothing.
 const FRONT: usize = 262_145;

@@ -19,11 +19,11 @@ mod memories;
 mod print;
 mod trial;
 
-use console::argument_count;
 use crate::built::try_built;
 use crate::files::try_argument;
 use crate::lister_points::try_lister;
 use crate::trial::try_lengths;
+use console::argument_count;
 
 fn main(rt: HostRuntime) {
     let count = argument_count(rt);

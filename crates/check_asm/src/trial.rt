@@ -34,13 +34,15 @@ pub fn try_lengths(rt: HostRuntime) {
     let mut short_image = [IMAGE_PATTERN; 4095];
     let mut long_memory = [DATA_PATTERN; 4097];
     let first = assemble(b"", &mut short_image, &mut memory).outcome();
-    print_refused(rt,
+    print_refused(
+        rt,
         b"lengths_short_image",
         first,
         is_kept(&short_image, &memory),
     );
     let second = assemble(b"", &mut image, &mut long_memory).outcome();
-    print_refused(rt,
+    print_refused(
+        rt,
         b"lengths_long_memory",
         second,
         is_kept(&image, &long_memory),

@@ -4,14 +4,15 @@ ghost use Rattle.files.specs.Loaded.{AreCycles};
 ghost use Rattle.files.specs.Loaded.{FileLoaded, CyclesLoaded};
 ghost use Rattle.check_examples.specs.Memories.{MemoriesLoaded};
 
-use console::NAME;
 use crate::open::file_path;
+use console::NAME;
 use files::{read_data, read_disk, read_image, read_irq2};
 use memories::FileLoad;
 use text::Outcome;
 
 // Reads the instruction file, the file of data and the file of the disk, up to the first that is refused.
-pub fn load_memories(rt: HostRuntime,
+pub fn load_memories(
+    rt: HostRuntime,
     folder: &[u8],
     image: &mut [u64; 4096],
     memory: &mut [u32; 4096],

@@ -3,8 +3,8 @@
 mod load;
 mod open;
 
-use console::{NAME, argument, argument_count};
 use crate::load::{load_irq2, load_memories};
+use console::{NAME, argument, argument_count};
 use long_run::{print_line_e, print_line_n, run_budget};
 
 fn main(rt: HostRuntime) {
@@ -49,7 +49,14 @@ fn run_folder(rt: HostRuntime, folder: &[u8]) {
     }
     let count = irq2.count;
     let mut frame = [0u8; 65536];
-    let end = run_budget(rt, &image, &mut memory, &mut disk, &mut frame, &cycles[..count]);
+    let end = run_budget(
+        rt,
+        &image,
+        &mut memory,
+        &mut disk,
+        &mut frame,
+        &cycles[..count],
+    );
     if end.written {
         print_line_e(rt, end.state.core.status, end.state.core.age);
     }

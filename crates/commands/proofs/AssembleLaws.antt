@@ -21,7 +21,7 @@ module _ (buffer : List ℕ) (n : ℕ) {image memory image_after memory_after : 
   whole-assembled whole front =
       let all = by_front (λ (s : List ℕ). Assembling s image memory r image_after memory_after) buffer n whole front assembled
       (λ full long. long_alike (take n buffer) whole image memory (omega arith) (omega arith) assembled) in
-      record { outcome = says ∙ all.answer; words = rw says all.words; data_words_lem = rw says all.data_words_lem }
+      record { outcome = says ∙ all.answer; words = rw says all.words; memory_words = rw says all.memory_words }
 
   whole-read : t.number ≡ 0 → (whole : List ℕ) → IsFront buffer n whole → take n buffer ≡ whole
   whole-read none whole front =

@@ -11,7 +11,7 @@ use Rattle.files.specs.Front.{IsFront}
 pub record TextAssembled (source : List ℕ) (t : Outcome) (image memory image_after memory_after : List ℕ) : Type 0 where
   pub outcome : t ≡ assemble_outcome source (length image) (length memory)
   pub words : image_after ≡ unless_refused t (assembled_image source) image
-  pub data_words_lem : memory_after ≡ unless_refused t (assembled_data source) memory
+  pub memory_words : memory_after ≡ unless_refused t (assembled_data source) memory
 
 -- So was every whole text whose front the buffer holds in its first n bytes; one that is accepted is these bytes, and no more.
 pub record FrontAssembled (buffer : List ℕ) (n : ℕ) (t : Outcome) (image memory image_after memory_after : List ℕ) : Type 0 where

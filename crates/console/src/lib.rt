@@ -41,7 +41,7 @@ pub struct Writing {
 }
 
 // What reading a file answers.
-#[derive(Drop)]
+#[derive(Clone, Copy)]
 pub enum Got {
     // The whole file, so many bytes, stands at the front of the buffer.
     Bytes(usize),

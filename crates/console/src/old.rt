@@ -4,7 +4,7 @@ use crate::path::is_link;
 use std::io::{Error, ErrorKind};
 
 // What stands at a path.
-#[derive(Drop)]
+#[derive(Clone, Copy)]
 pub enum Old {
     // Nothing, or a file that a new one may take the place of.
     File,

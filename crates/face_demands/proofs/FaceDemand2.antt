@@ -36,7 +36,7 @@ face_listing words out text image memory image_after memory_after r count word s
       listed.number ∙ ap number outcome,
       p.number ∙ ap number accepts,
       rw (rw accepts at p.words) (listing-same-image words whole known),
-      rw accepts at p.data_words_lem ∙ listing_data words known,
+      rw accepts at p.memory_words ∙ listing_data words known,
     )
 
 face_record : FaceRecord

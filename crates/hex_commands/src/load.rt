@@ -36,7 +36,8 @@ fn fill_memory(rt: HostRuntime, i: usize, buffer: &[u8], n: usize, memory: &mut 
     ensures { HexFront buffer.now n result memory.old memory.new }
 {
     if MOST < n {
-        say_at(rt,
+        say_at(
+            rt,
             i,
             b": the file has more than 1048576 bytes (983053 are enough for the whole disk with a record for each byte)\n",
         );

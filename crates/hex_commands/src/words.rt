@@ -2,8 +2,8 @@
 ghost use Rattle.std.specs.Prelude.{◌≡◌, List, ℕ, ◌+◌, ◌^◌, ◌<◌};
 ghost use Rattle.hex_commands.specs.Words.{for_memory, conversion_of};
 
-use console::{NAME, argument};
 use crate::Conversion;
+use console::{NAME, argument};
 use text::same::are_same;
 
 // The conversion that an argument and the next name: that of some two words, which can't be named here.

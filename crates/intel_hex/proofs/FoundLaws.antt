@@ -81,7 +81,7 @@ module _ (s : List ℕ) where
         within = rw (ap (λ (x : Found). x.address + x.count) e) (omega arith);
         inside = rw (ap (λ (x : Found). x.end) e) (omega arith);
         same_length = refl;
-        is_record_lem = ap (λ (x : Found). x.good) e ∙ is_false (is_record (first_record s)) none;
+        record_is = ap (λ (x : Found). x.good) e ∙ is_false (is_record (first_record s)) none;
         line-end = λ g. absurd (never g);
         count-is = λ g. absurd (never g);
         address_is = λ g. absurd (never g);
@@ -150,7 +150,7 @@ module _ (s : List ℕ) (n : ℕ) (count : n ≡ record_stop s) (fits : n ≤ le
         within = omega arith;
         inside = inside;
         same_length = ap length eafter ∙ length-put before a (map (λ b. b % 256) (pair_values digits));
-        is_record_lem = test;
+        record_is = test;
         line-end = λ g. eend ∙ (line g).1;
         count-is = λ g. ec ∙ rw ((line g).0, same_count s n nine fits, head_bytes s (omega arith));
         address_is = λ g. ea ∙ rw ((line g).0, same_address s n nine fits);

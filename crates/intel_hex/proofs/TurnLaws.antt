@@ -83,7 +83,7 @@ module _ (text : List ℕ) (at : ℕ) (h : at < length text) (bytes after : List
   -- No record.
   not_good : f.good ≡ false → outcome ≡ told room free i (record_lines (drop at text))
   unfolding told
-  not_good e = let no : is_record line ≡ false = sym here.is_record_lem ∙ e in rw (lines-here, e, no)
+  not_good e = let no : is_record line ≡ false = sym here.record_is ∙ e in rw (lines-here, e, no)
 
   -- A record.
   module _ (g : f.good ≡ true) where
@@ -100,7 +100,7 @@ module _ (text : List ℕ) (at : ℕ) (h : at < length text) (bytes after : List
 
     outcome-is : outcome ≡ asked is_right (is_read_type (kind (line_bytes line))) placed (i + 1) (accepted 0)
     unfolding is_right placed
-    outcome-is = rw (here.kind-is g, here.count-is g, here.address_is g, ← here.is_record_lem, g, last_line text next)
+    outcome-is = rw (here.kind-is g, here.count-is g, here.address_is g, ← here.record_is, g, last_line text next)
 
     told_here : told room free i (record_lines (drop at text))
         ≡ asked is_right (is_read_type (kind (line_bytes line))) placed (i + 1)

@@ -59,7 +59,7 @@ pub record RecordFound (text before : List ℕ) (r : Found) (after : List ℕ) :
   pub within : r.address + r.count ≤ byte_limit
   pub inside : r.end ≤ length text
   pub same_length : length after ≡ length before
-  pub is_record_lem : r.good ≡ is_record (first_record text)
+  pub record_is : r.good ≡ is_record (first_record text)
   pub line-end : r.good ≡ true → r.end ≡ length (first_line text)
   pub count-is : r.good ≡ true → r.count ≡ data_count (line_bytes (first_record text))
   pub address_is : r.good ≡ true → r.address ≡ address (line_bytes (first_record text))

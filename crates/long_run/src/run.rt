@@ -17,7 +17,8 @@ use saved::fresh_record;
 const BUDGET: u64 = 100_000;
 
 // Runs an image with an irq2 list from the fresh record until the budget is spent or the machine has stopped, and prints the log.
-pub fn run_budget(rt: HostRuntime,
+pub fn run_budget(
+    rt: HostRuntime,
     image: &[u64; 4096],
     memory: &mut [u32; 4096],
     disk: &mut [u32; 16384],
@@ -28,7 +29,8 @@ pub fn run_budget(rt: HostRuntime,
     ensures { Ends image.now irq2.now whole_budget (fresh_machine memory.old disk.old frame.old) result (machine_of result.state memory.new disk.new frame.new) }
 {
     let fresh = fresh_record();
-    run_on(rt,
+    run_on(
+        rt,
         fresh,
         image,
         memory,
@@ -42,7 +44,8 @@ pub fn run_budget(rt: HostRuntime,
 
 // Runs an image with an irq2 list from a sound record until the budget is spent, the machine has stopped or is at the cycle limit, or the log can't
 // be written. The log goes out in pieces; long runs tell on standard error how far they are.
-pub fn run_on(rt: HostRuntime,
+pub fn run_on(
+    rt: HostRuntime,
     start: Record,
     image: &[u64; 4096],
     memory: &mut [u32; 4096],

@@ -41,7 +41,8 @@ fn budget_of(rt: HostRuntime, word: &[u8]) -> Count
 fn no_budget(rt: HostRuntime, word: &[u8]) -> Count
     ensures { result ≡ Count.None }
 {
-    say_of(rt,
+    say_of(
+        rt,
         word,
         b": no number of cycles (it has 1 to 13 decimal digits)\n",
     );

@@ -1,7 +1,10 @@
 // Files that arguments name.
 ghost use Rattle.console.specs.Writings.{Begun, Ended, Committed};
 
-use console::{NAME, Writing, abandon_file, argument, begin_file, begin_more, commit_file, drop_file, end_file, is_missing, say_of, say_refusal};
+use console::{
+    NAME, Writing, abandon_file, argument, begin_file, begin_more, commit_file, drop_file,
+    end_file, is_missing, say_of, say_refusal,
+};
 
 // Begins the file that an argument names.
 pub fn begin_at(rt: HostRuntime, i: usize) -> Writing

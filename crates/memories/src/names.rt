@@ -2,8 +2,8 @@
 ghost use Rattle.std.specs.Prelude.{◌≡◌, true, List, ℕ, ◌+◌, ◌^◌, ◌<◌};
 ghost use Rattle.memories.specs.Names.{is_device, is_new_of, clash};
 
-use console::{NAME, argument};
 use crate::named::say_at;
+use console::{NAME, argument};
 use text::same::{are_same, begins_with};
 
 // Whether the name of a file that is written clashes with that of one before it: the arguments from `first` on, of which so many are read. Says so

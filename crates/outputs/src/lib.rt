@@ -1,5 +1,7 @@
 // The texts that the programs write and print of a run: the files of its log's lines, the registers and the cycles, why it stopped, and a saved
 // record by its fields.
+#![tactic(auto)]
+
 mod core_lines;
 mod cycles;
 mod log;

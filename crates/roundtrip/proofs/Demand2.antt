@@ -35,7 +35,7 @@ pub memories_return : (Back : ℕ → Bool → (ℕ → Bool) → List ℕ → L
 memories_return Back back =
     record {
       image = λ m size. back 12 _ _ m _ (eq-eqb _ _ size) (λ n e. eq-eqb _ _ (e ∙ size)) refl;
-      data_words_lem = λ m size below. back 8 _ _ m _ (eq-eqb _ _ size) (λ n e. eq-eqb _ _ (e ∙ size)) (below_mod (2 ^ 32) m below);
+      memory_words = λ m size below. back 8 _ _ m _ (eq-eqb _ _ size) (λ n e. eq-eqb _ _ (e ∙ size)) (below_mod (2 ^ 32) m below);
       frame = λ m size below. back 2 _ _ m _ (eq-eqb _ _ size) (λ n e. eq-eqb _ _ (e ∙ size)) (below_mod (2 ^ 8) m below);
       disk = λ m first sectors right below.
           back 8 _ _ (sectors_of m first sectors) _ right (λ n e. is-part m first sectors right n (e ∙ length_sectors m first sectors right))

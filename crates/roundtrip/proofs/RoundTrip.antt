@@ -86,7 +86,7 @@ listed_assembles words out r after n image memory a image_after memory_after lis
     let is = accepted-is words (length out) n (sym listed.answer ∙ good) in
     let p = rw (text_in_front words out r after n listed good) at assembled in
     let outcome : assembled_outcome a ≡ accepted 0 = rw (image_size, data-size) at p.answer ∙ listing-accepted words is.size is.known in
-    (outcome, rw outcome at p.words ∙ listing-image words is.known, rw outcome at p.data_words_lem ∙ listing_data words is.known)
+    (outcome, rw outcome at p.words ∙ listing-image words is.known, rw outcome at p.memory_words ∙ listing_data words is.known)
 
 -- An image that was listed whole comes back.
 pub listed-image_returns : (words out : List ℕ) (r : Listed) (after : List ℕ) (n : ℕ) (image memory : List ℕ) (a : Assembled) (image_after memory_after : List ℕ)

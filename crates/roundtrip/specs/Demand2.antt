@@ -74,7 +74,7 @@ ReadsBack k is_written is_read m back =
 -- bits are".
 pub record MemoriesReturn (Back : ℕ → Bool → (ℕ → Bool) → List ℕ → List ℕ → Type 0) : Type 0 where
   pub image : (m : List ℕ) → length m ≡ image_words → Back image_digits (is_image_length (length m)) is_image_length m (low48 m)
-  pub data_words_lem : (m : List ℕ) → length m ≡ data_words → Below (2 ^ 32) m → Back word_digits (is_data_length (length m)) is_data_length m m
+  pub memory_words : (m : List ℕ) → length m ≡ data_words → Below (2 ^ 32) m → Back word_digits (is_data_length (length m)) is_data_length m m
   pub frame : (m : List ℕ) → length m ≡ frame_bytes → Below (2 ^ 8) m → Back frame_digits (is_frame_length (length m)) is_frame_length m m
   pub disk : (m : List ℕ) (first sectors : ℕ) → is_disk_part (length m) first sectors ≡ true → Below (2 ^ 32) m
       → Back word_digits (is_disk_part (length m) first sectors) is_part_length (sectors_of m first sectors) (sectors_of m first sectors)

@@ -33,12 +33,21 @@ pub fn simulate(rt: HostRuntime, first: usize, budget: u64)
     }
     let mut cycles = [0u64; 16384];
     if let Count::Of(n) = load_irq2_at(rt, first + 3, &mut cycles) {
-        run_logged(rt, first, &image, &mut memory, &mut disk, &cycles[..n], budget);
+        run_logged(
+            rt,
+            first,
+            &image,
+            &mut memory,
+            &mut disk,
+            &cycles[..n],
+            budget,
+        );
     }
 }
 
 // Runs the program, its log going to four files.
-fn run_logged(rt: HostRuntime,
+fn run_logged(
+    rt: HostRuntime,
     first: usize,
     image: &[u64; 4096],
     memory: &mut [u32; 4096],
@@ -57,7 +66,8 @@ fn run_logged(rt: HostRuntime,
 }
 
 // The same with the four files open.
-fn run_split(rt: HostRuntime,
+fn run_split(
+    rt: HostRuntime,
     first: usize,
     image: &[u64; 4096],
     memory: &mut [u32; 4096],
@@ -70,12 +80,7 @@ fn run_split(rt: HostRuntime,
 {
     let mut frame = [0u8; 65536];
     let start = fresh_record();
-    let to = Sink::Split(
-        &logs.trace,
-        &logs.hwregtrace,
-        &logs.leds,
-        &logs.display7seg,
-    );
+    let to = Sink::Split(&logs.trace, &logs.hwregtrace, &logs.leds, &logs.display7seg);
     let end = run_on(rt, start, image, memory, disk, &mut frame, irq2, budget, to);
     if !end.written {
         abandon_logs(rt, first, logs);

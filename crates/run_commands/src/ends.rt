@@ -6,7 +6,8 @@ use memories::{commit_at, write_new_bytes, write_new_data, write_new_disk, write
 use outputs::{put_cycles, put_registers};
 
 // Writes them, the 5th, 6th, 9th, 12th, 13th and 14th of the fourteen, and answers whether all are written.
-pub fn write_ends(rt: HostRuntime,
+pub fn write_ends(
+    rt: HostRuntime,
     first: usize,
     state: Record,
     memory: &[u32; 4096],

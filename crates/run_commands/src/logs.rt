@@ -60,7 +60,10 @@ pub fn commit_logs(rt: HostRuntime, first: usize, logs: LogFiles) -> bool
         is_whole,
         commit_at(rt, first + 7, end_at(rt, first + 7, logs.hwregtrace)),
     );
-    is_whole = both(is_whole, commit_at(rt, first + 9, end_at(rt, first + 9, logs.leds)));
+    is_whole = both(
+        is_whole,
+        commit_at(rt, first + 9, end_at(rt, first + 9, logs.leds)),
+    );
     both(
         is_whole,
         commit_at(rt, first + 10, end_at(rt, first + 10, logs.display7seg)),

@@ -14,5 +14,8 @@ pub fn say_stop(rt: HostRuntime, core: Core) {
 
 // Says that the log of a run can't be written.
 pub fn say_log_unwritten(rt: HostRuntime) {
-    say(rt, b"the log can't be written: the run is not finished, and nothing is written\n");
+    say(
+        rt,
+        b"the log can't be written: the run is not finished, and nothing is written\n",
+    );
 }

@@ -73,7 +73,8 @@ fn resume_image(rt: HostRuntime, first: usize, image: &[u64; 4096], irq2: &[u64]
         return;
     }
     let state = start.state;
-    run_more(rt,
+    run_more(
+        rt,
         first,
         state,
         image,
@@ -86,7 +87,8 @@ fn resume_image(rt: HostRuntime, first: usize, image: &[u64; 4096], irq2: &[u64]
 }
 
 // Runs on, its log going to the end of a file.
-fn run_more(rt: HostRuntime,
+fn run_more(
+    rt: HostRuntime,
     first: usize,
     state: Record,
     image: &[u64; 4096],
@@ -102,7 +104,8 @@ fn run_more(rt: HostRuntime,
     if is_no_file(&log) {
         return;
     }
-    let end = run_on(rt,
+    let end = run_on(
+        rt,
         state,
         image,
         memory,
@@ -118,7 +121,15 @@ fn run_more(rt: HostRuntime,
         return;
     }
     let then = end.state;
-    if write_back(rt, first, end_at(rt, first + 7, log), then, memory, disk, frame) {
+    if write_back(
+        rt,
+        first,
+        end_at(rt, first + 7, log),
+        then,
+        memory,
+        disk,
+        frame,
+    ) {
         say_stop(rt, then.core);
     }
 }

@@ -20,7 +20,8 @@ pub fn is_log_without_record(rt: HostRuntime, log: usize, is_fresh: bool) -> boo
     if is_device_at(rt, log) {
         return false;
     }
-    say_at(rt,
+    say_at(
+        rt,
         log,
         b" is there, but no saved record: a run that starts fresh wants a new log\n",
     );

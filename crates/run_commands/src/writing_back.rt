@@ -9,7 +9,8 @@ use memories::{
 };
 
 // Writes all of them, or none unless putting one into its place fails after others, and answers whether they are there then.
-pub fn write_back(rt: HostRuntime,
+pub fn write_back(
+    rt: HostRuntime,
     first: usize,
     log: Writing,
     state: Record,
@@ -56,7 +57,15 @@ fn are_written(a: &Writing, b: &Writing, c: &Writing, d: &Writing, e: &Writing) 
 }
 
 // Puts the log, the memories and the record into their places, up to the first that can't be; those after it are removed.
-fn commit_all(rt: HostRuntime, first: usize, log: Writing, d: Writing, k: Writing, f: Writing, r: Writing) -> bool
+fn commit_all(
+    rt: HostRuntime,
+    first: usize,
+    log: Writing,
+    d: Writing,
+    k: Writing,
+    f: Writing,
+    r: Writing,
+) -> bool
     requires { first + 8 < 2 ^ 64 }
 {
     let mut is_committed = commit_at(rt, first + 7, log);

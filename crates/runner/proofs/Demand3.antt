@@ -66,7 +66,7 @@ cycle-is-age irq2 start fresh (suc n) makes =
 pub fresh_any : (image memory disk frame : List ℕ) → length image ≡ image_words → length memory ≡ data_words → length disk ≡ disk_words → length frame ≡ frame_bytes
     → Below (2 ^ 32) memory → Below (2 ^ 32) disk → Below (2 ^ 8) frame → Fresh (standing_of image fresh_record memory disk frame)
 fresh_any image memory disk frame a b c d e f g =
-    record { record_is = refl; image = a; data_words_lem = b; disk-words = c; frame-bytes = d; memory-fits = e; disk-fits = f; frame-fits = g }
+    record { record_is = refl; image = a; memory_words = b; disk-words = c; frame-bytes = d; memory-fits = e; disk-fits = f; frame-fits = g }
 
 -- .. and from there every run is accepted whose irq2 list rises strictly.
 pub accepts_runs : (irq2 : List ℕ) (start : Standing) → Fresh start → rising irq2 ≡ true → run_outcome lab irq2 start ≡ accepted 0

@@ -54,7 +54,7 @@ good-fresh w f =
     record {
       image_size = f.image;
       sound = subst (λ (m : Machine). Sound m.core m.regs m.io) (sym f.record_is) sound-fresh;
-      sized = record { memory_size = f.data_words_lem; disk_size = f.disk-words; frame_size = f.frame-bytes };
+      sized = record { memory_size = f.memory_words; disk_size = f.disk-words; frame_size = f.frame-bytes };
       fits = record { memory = f.memory-fits; disk = f.disk-fits; frame = f.frame-fits };
     }
 

@@ -71,7 +71,7 @@ run_questions irq2 w = (1, are_lengths w) ∷ (12, rising irq2) ∷ (13, is_soun
 pub record Fresh (w : Standing) : Type 0 where
   pub record_is : w.state ≡ fresh_machine w.state.memory w.state.disk w.state.frame
   pub image : length w.image ≡ image_words
-  pub data_words_lem : length w.state.memory ≡ data_words
+  pub memory_words : length w.state.memory ≡ data_words
   pub disk-words : length w.state.disk ≡ disk_words
   pub frame-bytes : length w.state.frame ≡ frame_bytes
   pub memory-fits : Below (2 ^ 32) w.state.memory

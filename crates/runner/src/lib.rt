@@ -12,7 +12,7 @@ mod registers;
 pub use calls::run;
 
 // Why a run ended, or which question refused it.
-#[derive(Drop)]
+#[derive(Clone, Copy)]
 pub enum RunAnswer {
     // Its budget is spent.
     BudgetSpent,
@@ -31,7 +31,7 @@ pub enum RunAnswer {
 }
 
 // What a run hands back: the record, the cycles that it made, the log bytes that it wrote, and its answer.
-#[derive(Drop)]
+#[derive(Clone, Copy)]
 pub struct RunReport {
     pub state: Record,
     pub cycles: u64,
@@ -40,7 +40,7 @@ pub struct RunReport {
 }
 
 // Where a run's cycles ended: the scalars then, the cycles made, the log's place after their lines, and why.
-#[derive(Drop)]
+#[derive(Clone, Copy)]
 pub struct Ended {
     pub core: Core,
     pub cycles: u64,

@@ -33,7 +33,7 @@ assembles {source} {image} {memory} {a} p t =
       number = ap (λ (x : Outcome). x.number) (t ∙ p.answer);
       line = ap (λ (x : Outcome). x.place) (t ∙ p.answer);
       words = p.words ∙ ap (λ (x : Outcome). unless_refused x (assembled_image source) image) p.answer;
-      data_words_lem = p.data_words_lem ∙ ap (λ (x : Outcome). unless_refused x (assembled_data source) memory) p.answer;
+      memory_words = p.memory_words ∙ ap (λ (x : Outcome). unless_refused x (assembled_data source) memory) p.answer;
       high_bits = λ q. p.high_bits (number-zero a (sym (ap (λ (x : Outcome). x.number) t) ∙ q));
     }
 

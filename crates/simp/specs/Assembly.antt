@@ -13,7 +13,7 @@ pub record Assembles (source image memory : List ℕ) (r : ℕ) (image_after mem
   pub number : r ≡ (assemble_outcome source (length image) (length memory)).number
   pub line : place ≡ (assemble_outcome source (length image) (length memory)).place
   pub words : image_after ≡ unless_refused (assemble_outcome source (length image) (length memory)) (assembled_image source) image
-  pub data_words_lem : memory_after ≡ unless_refused (assemble_outcome source (length image) (length memory)) (assembled_data source) memory
+  pub memory_words : memory_after ≡ unless_refused (assemble_outcome source (length image) (length memory)) (assembled_data source) memory
   pub high_bits : r ≡ 0 → Below (2 ^ 48) image_after
 
 -- `simp_list` returns r.

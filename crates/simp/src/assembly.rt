@@ -5,12 +5,7 @@ use assembler::assemble;
 use lister::list;
 
 // Assembles a text into an image and a data memory.
-pub fn simp_assemble(
-    source: &[u8],
-    image: &mut [u64],
-    memory: &mut [u32],
-    place: &mut u64,
-) -> u32
+pub fn simp_assemble(source: &[u8], image: &mut [u64], memory: &mut [u32], place: &mut u64) -> u32
     ensures { Assembles source.now image.old memory.old result image.new memory.new place.new }
 {
     let outcome = assemble(source, image, memory).outcome();

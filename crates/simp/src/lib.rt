@@ -1,5 +1,7 @@
 // The C face of the lab: each call returns 0 or document 01's number, and writes the place and the counts, 0 where document 01 says 0. What each
 // promises stands in specs/; include/simp.h is its header.
+#![tactic(auto)]
+
 mod assembly;
 mod hex;
 mod memory_files;

@@ -46,12 +46,7 @@ pub fn simp_read_frame(text: &[u8], frame: &mut [u8], place: &mut u64) -> u32
 }
 
 // Reads an irq2 file into the front of a list of cycles.
-pub fn simp_read_irq2(
-    text: &[u8],
-    cycles: &mut [u64],
-    count: &mut u64,
-    place: &mut u64,
-) -> u32
+pub fn simp_read_irq2(text: &[u8], cycles: &mut [u64], count: &mut u64, place: &mut u64) -> u32
     ensures { ReadsCycles text.now cycles.old result cycles.new count.new place.new }
 {
     let outcome = read_irq2(text, cycles).outcome();

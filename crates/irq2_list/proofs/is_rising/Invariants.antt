@@ -1,7 +1,6 @@
 use Prim.Native.Nat.{◌-◌}
-use native.Mathlib.Omega.{arith}
 use lib.ListN.{length}
-use Rattle.irq2_list.proofs.PlaceLaws.{Scanned, scan_begun, scan_turned, scan_failed, scan_finished}
+use Rattle.irq2_list.proofs.PlaceLaws.{Scanned}
 use Rattle.irq2_list.proofs.is_rising.Given as goal
 
 abbrev pub invariant-loop-i : goal.invariant-loop-i

@@ -2,7 +2,7 @@ use Rattle.symbols.proofs.FindLaws.{other_key, same-part}
 use Rattle.symbols.proofs.is_entry.Goals as goal
 
 pub returns-then-table-at : goal.returns-then-table-at
-returns-then-table-at c = let s = c in
+returns-then-table-at c =
     let a = c.args in
     other_key a.source.now a.table.now a.below a.k a.t.now a.key c.requires.2 c.requires.0 c.if-table-at.true
 

@@ -11,4 +11,5 @@ pub returns-then-t-gt-MOST_LETTERS : goal.returns-then-t-gt-MOST_LETTERS
 returns-then-t-gt-MOST_LETTERS c = name_long _ c.is_letter.result c.is_letter.ensures c.if-not-is_letter.false c.if-t-gt-MOST_LETTERS.true
 
 pub returns : goal.returns
-returns c = name-rest _ c.is_letter.result c.is_letter.ensures c.if-not-is_letter.false c.if-t-gt-MOST_LETTERS.false c.are_letters_or_digits.result c.are_letters_or_digits.ensures
+returns c = name-rest _ c.is_letter.result c.is_letter.ensures c.if-not-is_letter.false c.if-t-gt-MOST_LETTERS.false c.are_letters_or_digits.result
+    c.are_letters_or_digits.ensures

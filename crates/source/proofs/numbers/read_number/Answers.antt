@@ -12,4 +12,5 @@ pub slice_bounds-digits_up_to-start : goal.slice_bounds-digits_up_to-start
 slice_bounds-digits_up_to-start c = let room = (prefix-fits c.args.t.now c.prefix_of-p.result c.prefix_of-p.ensures c.if-base-eq0.false).room in search (rules, room)
 
 pub returns : goal.returns
-returns c = prefixed c.args.t.now c.prefix_of-p.result c.prefix_of-p.ensures c.if-base-eq0.false c.digits_up_to.result c.digits_up_to.ensures c.as_unsigned.result c.as_unsigned.ensures
+returns c = prefixed c.args.t.now c.prefix_of-p.result c.prefix_of-p.ensures c.if-base-eq0.false c.digits_up_to.result c.digits_up_to.ensures c.as_unsigned.result
+    c.as_unsigned.ensures

@@ -1,5 +1,5 @@
 -- What reading files that the operating system hands over leaves. Assumes nothing.
-use Prim.Native.Nat.{ℕ, ◌+◌, ◌*◌, ◌%◌, ◌≤◌, ◌<◌}
+use Prim.Native.Nat.{ℕ, ◌+◌, ◌%◌, ◌≤◌, ◌<◌}
 use mathlib.Core.Path.{◌≡◌, refl, sym, ◌∙◌, ap}
 use mathlib.Core.Bool.{Bool, true, false, cond, ◌&&◌}
 use mathlib.Core.List.{List, [], ◌∷◌}
@@ -12,13 +12,11 @@ use Rattle.text.specs.Questions.{accepted, first_bad}
 use Rattle.text.specs.Lines.{lines}
 use Rattle.text.proofs.QuestionLaws.{first_yes}
 use Rattle.text.proofs.Truth.{and_right}
-use Rattle.files.specs.declared.FileRead.{FileRead}
 use Rattle.files.specs.declared.CyclesRead.{CyclesRead}
 use Rattle.files.specs.Sizes.{sector_words, disk_words, is_part_length}
 use Rattle.files.specs.MemoryFile.{is_word, word_questions, lines_outcome, read_outcome}
-use Rattle.files.specs.Loaded.{FileLoaded}
-use Rattle.files.specs.Answers.{file_read_outcome, cycles_read_outcome}
-use Rattle.files.specs.Promises.{MemoryRead, Irq2Read}
+use Rattle.files.specs.Answers.{cycles_read_outcome}
+use Rattle.files.specs.Promises.{Irq2Read}
 use Rattle.files.proofs.CycleLaws.{are_cycles}
 use Rattle.files.proofs.Irq2CutLaws.{cut-cycles}
 use Rattle.files.proofs.LoadedLaws.{counted}

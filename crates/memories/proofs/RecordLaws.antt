@@ -11,10 +11,9 @@ use Rattle.text.specs.declared.Outcome.{Outcome}
 use Rattle.text.specs.Questions.{accepted}
 use Rattle.text.proofs.QuestionLaws.{first_yes, by_number}
 use Rattle.machine.specs.declared.Record.{Record}
-use Rattle.machine.specs.Soundness.{Sound}
 use Rattle.saved.specs.Sound.{is_sound}
 use Rattle.saved.specs.Layout.{record_bytes}
-use Rattle.saved.specs.Calls.{fresh_record, save_outcome, load_questions, load_outcome, load_record}
+use Rattle.saved.specs.Calls.{save_outcome, load_questions, load_outcome, load_record}
 use Rattle.saved.proofs.TripLaws.{load_sound}
 use Rattle.memories.specs.declared.RecordRead.{RecordRead}
 use Rattle.memories.specs.Records.{ReadFrom, FrontLoaded, LoadedIf, SoundRead, FreshRead}

@@ -1,5 +1,7 @@
 // The machine's memories, its irq2 list and its record, read from files and written to files. A function whose name ends in `_at`, or that writes,
 // takes the number of the program's argument that names the file; the others take its path. What is refused, and why, is said on standard output.
+#![tactic(auto)]
+
 use machine::Record;
 use text::Outcome;
 

@@ -1,0 +1,5 @@
+use Rattle.memories.proofs.NewFileLaws.{text-written}
+use Rattle.memories.proofs.new_files.write_new_frame.Goals as goal
+
+pub returns : goal.returns
+returns c = text-written c.write_frame.ensures c.write_new_text.ensures

@@ -1,5 +1,7 @@
 // The command `hex`: Intel HEX files read into the files of data and of the disk that `sim` reads, and written from such files. A program's arguments name
 // the files. It says on standard output how it went.
+#![tactic(auto)]
+
 mod converting;
 mod load;
 mod new_files;

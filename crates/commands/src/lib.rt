@@ -1,4 +1,6 @@
 // The commands `asm`, `list`, `show` and `picture`, on the files that a program's arguments name. Each says on standard output how it went.
+#![tactic(auto)]
+
 mod assembling;
 mod drawing;
 mod instructions;

@@ -1,0 +1,16 @@
+use Prim.Native.Nat.{◌+◌, ◌-◌, ◌≤◌}
+use mathlib.Core.Path.{◌≡◌, refl}
+use native.Mathlib.Omega.{arith}
+use lib.ListN.{length, drop}
+use borrow.Author.Rules.{rules}
+use Rattle.commands.proofs.CountLaws.{one_at_most, one-counted, all-counted}
+use Rattle.text.specs.Lines.{lines}
+use Rattle.lines.specs.Parts.{most_places}
+use Rattle.labels.specs.Text.{code_count}
+use Rattle.commands.proofs.instructions.count_instructions.Given as goal
+
+abbrev pub invariant-loop-p : goal.invariant-loop-p
+invariant-loop-p l = (l.n + code_count (lines (drop l.p l.text)) ≡ code_count (lines l.text)) × (l.p ≤ length l.text + 1) × (l.n ≤ l.p) × (length l.places ≡ most_places)
+
+abbrev pub decreases-loop-p : goal.decreases-loop-p
+decreases-loop-p l = length l.text + 1 - l.p

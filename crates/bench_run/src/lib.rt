@@ -1,4 +1,6 @@
 // Runs one after the other from the fresh record: what bench/ measures, and what demand 3 says of real calls.
+#![tactic(auto)]
+
 ghost use Rattle.saved.specs.Calls.{fresh_record};
 ghost use Rattle.runner.specs.Lab.{standing_of};
 ghost use Rattle.bench_run.specs.ByCalls.{ByCalls, ByOneRun, stands_with};

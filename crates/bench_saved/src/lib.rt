@@ -1,4 +1,6 @@
 // A record saved and read again and again: what bench/ measures.
+#![tactic(auto)]
+
 ghost use Rattle.std.specs.Prelude.{◌≡◌, ◌-◌};
 ghost use Rattle.devices.specs.Bus.{drive_of};
 ghost use Rattle.saved.specs.Answers.{saved_outcome, loaded_outcome};

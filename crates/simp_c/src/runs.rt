@@ -16,5 +16,7 @@ pub extern "C" fn simp_run(
 ) -> u32
     ensures { Runs (simp_run numbers.old image.now memory.old disk.old frame.old irq2.now budget log.old report.old) numbers.old report.old result numbers.new memory.new disk.new frame.new log.new report.new }
 {
-    simp::simp_run(numbers, image, memory, disk, frame, irq2, budget, log, report)
+    simp::simp_run(
+        numbers, image, memory, disk, frame, irq2, budget, log, report,
+    )
 }

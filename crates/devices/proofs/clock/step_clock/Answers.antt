@@ -1,8 +1,6 @@
--- src/clock.rt:14:43
 use Rattle.devices.specs.Devices.{clocked}
 use Rattle.devices.proofs.clock.step_clock.Goals as goal
 
--- src/clock.rt:10:1
 pub returns : goal.returns
 unfolding clocked
 returns c = rw c.wrapping_add_u32.ensures.value

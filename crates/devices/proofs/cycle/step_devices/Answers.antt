@@ -1,8 +1,6 @@
--- src/cycle.rt:22:5
 use Rattle.devices.proofs.MoveLaws.{steps_are}
 use Rattle.devices.proofs.cycle.step_devices.Goals as goal
 
--- src/cycle.rt:12:1
 pub returns : goal.returns
 returns c = let a = c.args in
     steps_are a.began a.d _ a.io.now _ _ _ a.memory.now a.disk.now _ _

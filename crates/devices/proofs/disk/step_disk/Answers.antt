@@ -1,14 +1,11 @@
--- src/disk.rt:75:9
 use Rattle.std.proofs.Common.{refl, arith, lt-ltb}
 use Rattle.devices.specs.Disk.{disk_stepped}
 use Rattle.devices.proofs.disk.step_disk.Goals as goal
 
--- src/disk.rt:75:9
 pub returns-then-began-eq0 : goal.returns-then-began-eq0
 unfolding disk_stepped
 returns-then-began-eq0 c = rw c.if-began-eq0.true refl
 
--- src/disk.rt:64:1
 pub returns : goal.returns
 unfolding disk_stepped
 returns c = let a = c.args in

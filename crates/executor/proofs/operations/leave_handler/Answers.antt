@@ -1,9 +1,7 @@
--- src/operations.rt:107:13
 use mathlib.Core.Path.{refl}
 use Rattle.machine.specs.Execution.{executed}
 use Rattle.executor.proofs.operations.leave_handler.Goals as goal
 
--- src/operations.rt:104:1
 pub returns : goal.returns
 unfolding executed
 returns c = λ regs memory disk frame. rw (c.with_pc.ensures, c.with_handler.ensures) refl

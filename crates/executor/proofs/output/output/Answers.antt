@@ -1,20 +1,16 @@
--- src/output.rt:34:9
 use mathlib.Core.Path.{refl, sym, ◌∙◌}
 use Rattle.machine.specs.Execution.{executed}
 use Rattle.isa.proofs.IoLaws.{listed_lt}
 use Rattle.executor.proofs.output.output.Goals as goal
 
--- src/output.rt:36:9
 pub put_io-requires : goal.put_io-requires
 put_io-requires c =
     let p = c.requires in (listed_lt _ (sym c.is_listed.ensures ∙ c.if-is_listed.true), p)
 
--- src/output.rt:36:9
 pub returns-then-is_listed : goal.returns-then-is_listed
 unfolding executed
 returns-then-is_listed c = λ regs memory disk. rw (← c.plus-a.ensures, ← c.is_listed.ensures, c.if-is_listed.true) (c.put_io.ensures regs memory disk)
 
--- src/output.rt:25:1
 pub returns : goal.returns
 unfolding executed
 returns c = λ regs memory disk. rw (← c.plus-a.ensures, ← c.is_listed.ensures, c.if-is_listed.false, c.end.ensures) refl

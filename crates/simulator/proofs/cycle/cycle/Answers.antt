@@ -36,7 +36,6 @@ fetch_and_execute-d-requires-clause-by_index c = λ disk.
     let room = subst (λ (x : Machine). a.at + length (lines_at_fetch a.image.now x) ≤ length a.log.now) (sym e) c.requires.frame_in_bounds in
     subst (λ (l : List ℕ). a.at + length l ≤ length a.log.now) (lines_any a.image.now _ a.regs.now _ a.memory.now a.disk.now disk a.frame.now) room
 
--- src/cycle.rt:75:15
 pub end_cycle-requires : goal.end_cycle-requires
 end_cycle-requires c =
     let a = c.args in

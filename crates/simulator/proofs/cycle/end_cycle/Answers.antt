@@ -1,8 +1,6 @@
--- src/cycle.rt:160:9
 use Rattle.simulator.proofs.StepLaws.{finished-is}
 use Rattle.simulator.proofs.cycle.end_cycle.Goals as goal
 
--- src/cycle.rt:156:1
 pub returns : goal.returns
 returns c = λ regs frame.
     let a = c.args in

@@ -1,5 +1,5 @@
 use Prim.Native.Nat.{◌≤◌, ◌-◌}
-use Rattle.memories.proofs.names.names_clash.Given as goal
+use Rattle.memories.proofs.given_names.names_clash.Given as goal
 
 abbrev pub invariant-loop-i : goal.invariant-loop-i
 invariant-loop-i l = l.read ≤ l.i

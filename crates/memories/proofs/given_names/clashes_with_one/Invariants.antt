@@ -1,5 +1,5 @@
 use Prim.Native.Nat.{◌≤◌, ◌-◌}
-use Rattle.memories.proofs.names.clashes_with_one.Given as goal
+use Rattle.memories.proofs.given_names.clashes_with_one.Given as goal
 
 abbrev pub invariant-loop-k : goal.invariant-loop-k
 invariant-loop-k l = l.k ≤ l.count

@@ -1,6 +1,6 @@
 use mathlib.Core.Path.{sym, ◌∙◌}
 use Rattle.memories.specs.Names.{clash}
-use Rattle.memories.proofs.names.do_clash.Goals as goal
+use Rattle.memories.proofs.given_names.do_clash.Goals as goal
 
 pub returns-then-is_device : goal.returns-then-is_device
 unfolding clash

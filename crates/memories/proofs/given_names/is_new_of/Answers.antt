@@ -3,7 +3,7 @@ use native.Mathlib.Omega.{arith}
 use Rattle.text.specs.Bytes.{bytes}
 use Rattle.memories.proofs.NameLaws.{same_after, other_before}
 use Rattle.text.proofs.SameLaws.{front-room}
-use Rattle.memories.proofs.names.is_new_of.Goals as goal
+use Rattle.memories.proofs.given_names.is_new_of.Goals as goal
 
 pub slice_bounds-are_same-count : goal.slice_bounds-are_same-count
 slice_bounds-are_same-count c = front-room _ c.args.name.now _ c.begins_with.ensures c.if-begins_with.true

@@ -1,0 +1,5 @@
+use Rattle.memories.proofs.NewFileLaws.{text-written}
+use Rattle.hex_commands.proofs.new_files.write_new_hex_disk.Goals as goal
+
+pub returns : goal.returns
+returns c = text-written c.write_hex_disk.ensures c.write_new_text.ensures

@@ -1,4 +1,6 @@
 // The commands `sim` and `resume`, on the files that a program's arguments name. Each says on standard output where and why the run stopped.
+#![tactic(auto)]
+
 use console::Writing;
 
 mod course;

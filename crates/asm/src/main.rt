@@ -1,4 +1,6 @@
 // Assembles a program into its two memory files: `asm PROGRAM IMEM DMEM`. Without three arguments it prints a help text.
+#![tactic(auto)]
+
 mod help;
 
 use crate::help::print_help;

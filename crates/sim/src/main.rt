@@ -1,5 +1,7 @@
 // Runs a program on the course paper's fourteen files: `sim IMEMIN DMEMIN .. MONITOR.YUV`, and a number of cycles after them if the run is to stop.
 // Without these it prints a help text.
+#![tactic(auto)]
+
 mod help;
 
 use crate::help::print_help;

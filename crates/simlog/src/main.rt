@@ -1,5 +1,7 @@
 // Reads an instruction file from standard input and runs it, other memories zero, no irq2 cycles, budget 100,000 cycles. Prints the log and then
 // the line E; of a file that is refused the line N alone.
+#![tactic(auto)]
+
 ghost use Rattle.std.specs.Prelude.{◌≤◌, ◌<◌, length};
 ghost use Rattle.files.specs.Sizes.{image_digits, is_image_length};
 ghost use Rattle.files.specs.Front.{FrontRead};

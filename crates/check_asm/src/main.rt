@@ -11,8 +11,10 @@
 //
 // At the end the points on the lister, L1 to L3: `ok` with the count of bytes, or `N` with the number and the place, and then the lent text, which
 // holds 80 dots before.
+#![tactic(auto)]
+
 mod built;
-mod files;
+mod given_files;
 mod lister_points;
 mod listing;
 mod memories;
@@ -20,7 +22,7 @@ mod print;
 mod trial;
 
 use crate::built::try_built;
-use crate::files::try_argument;
+use crate::given_files::try_argument;
 use crate::lister_points::try_lister;
 use crate::trial::try_lengths;
 use console::argument_count;

@@ -1,17 +1,7 @@
-use Prim.Native.Nat.{ℕ, ◌+◌, ◌-◌, ◌≤◌}
-use mathlib.Core.Path.{◌≡◌, refl, ◌∙◌}
-use mathlib.Core.List.{List}
-use native.Mathlib.Nat.{sub_self}
-use native.Mathlib.Omega.{arith}
+use Prim.Native.Nat.{◌-◌, ◌≤◌}
+use mathlib.Core.Path.{◌≡◌}
 use lib.ListN.{length}
-use mir.Syntax.{w64}
-use mir.Val.{Fits}
-use borrow.Author.Rules.{rules}
-use Rattle.text.specs.declared.Outcome.{Outcome}
-use Rattle.saved.specs.Answers.{saved_outcome}
-use Rattle.saved.specs.Calls.{save_outcome, save_bytes}
-use Rattle.bench_saved.specs.Turns.{one, older}
-use Rattle.bench_saved.proofs.TurnLaws.{at_most_one, Saving, begun, turned}
+use Rattle.bench_saved.proofs.TurnLaws.{Saving}
 use Rattle.bench_saved.proofs.make_saves.Given as goal
 
 abbrev pub invariant-loop-s : goal.invariant-loop-s

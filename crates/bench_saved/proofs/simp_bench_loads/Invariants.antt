@@ -1,9 +1,5 @@
 use Prim.Native.Nat.{◌-◌, ◌≤◌}
-use mathlib.Core.Path.{◌≡◌, refl}
-use native.Mathlib.Omega.{arith}
-use borrow.Author.Rules.{rules}
-use Rattle.saved.specs.Answers.{loaded_outcome}
-use Rattle.bench_saved.proofs.TurnLaws.{at_most_one, Reading, read}
+use Rattle.bench_saved.proofs.TurnLaws.{Reading}
 use Rattle.bench_saved.proofs.simp_bench_loads.Given as goal
 
 abbrev pub invariant-loop-i : goal.invariant-loop-i

@@ -1,14 +1,8 @@
-use Prim.Native.Nat.{ℕ, ◌+◌, ◌-◌, ◌%◌, ◌^◌, ◌≤◌, ◌<◌}
-use mathlib.Core.Path.{◌≡◌, sym, ap, ◌∙◌}
-use native.Mathlib.Omega.{arith}
-use lib.ListN.{length, get_or}
-use borrow.Author.Rules.{rules}
-use Rattle.bitpack.specs.Packed.{packed, bytes_of}
-use Rattle.bitpack.proofs.BitLaws.{shifted_low}
-use Rattle.bitpack.proofs.PackLaws.{fit_length, fit_at, narrow_at, packed-at}
-use Rattle.bitpack.proofs.ByteLaws.{eights, length-eights, eights_at, total-eights}
-use Rattle.bitpack.proofs.StreamLaws.{Loop, begun, has_more, pulled, emitted, finished}
-use Rattle.bench_saved.proofs.HeldLaws.{top_of, rest_of}
+use Prim.Native.Nat.{◌+◌, ◌-◌, ◌%◌, ◌^◌}
+use lib.ListN.{length}
+use Rattle.bitpack.specs.Packed.{packed}
+use Rattle.bitpack.proofs.ByteLaws.{eights}
+use Rattle.bitpack.proofs.StreamLaws.{Loop}
 use Rattle.bench_saved.proofs.by_bytes.pack_bytes.Given as goal
 
 abbrev pub invariant-loop-n : goal.invariant-loop-n

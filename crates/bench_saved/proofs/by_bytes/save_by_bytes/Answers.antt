@@ -5,7 +5,7 @@ use mathlib.Core.Bool.{true}
 use mathlib.Core.List.{List}
 use lib.Dec.{eqb}
 use lib.ListN.{length}
-use borrow.Author.Tests.{not-true, not-false, eq-eqb}
+use borrow.Author.Tests.{eq-eqb}
 use Rattle.isa.specs.Registers.{io_bits}
 use Rattle.bitpack.specs.Packed.{fit}
 use Rattle.bitpack.specs.Format.{bytes_of_record}

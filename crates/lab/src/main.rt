@@ -1,5 +1,7 @@
 // The lab's commands, each by its word: `lab list IMEM`, `lab show RECORD`, `lab picture MONITOR PGM`, `lab hex read data HEX DMEM` and three more,
 // `lab resume IMEM .. LOG`. Without a word it prints what they are; with a word alone, how that command is used.
+#![tactic(auto)]
+
 mod help;
 mod words;
 

@@ -4,7 +4,7 @@ use mathlib.Core.Path.{◌≡◌, refl, sym, ◌∙◌, ap, subst}
 use mathlib.Core.Bool.{Bool, true, false}
 use mathlib.Core.List.{List, [], ◌∷◌}
 use lib.Dec.{eqb, leb}
-use lib.ListN.{length, take, get_or, replicate}
+use lib.ListN.{length, get_or, replicate}
 use borrow.Author.Tests.{eqb-true, eqb-false, eq-eqb, ne_eqb}
 use Rattle.text.specs.declared.Outcome.{Outcome}
 use Rattle.text.specs.Questions.{accepted, refused}
@@ -15,19 +15,18 @@ use Rattle.text.proofs.QuestionLaws.{outcome, outcome-is, placeless, uncounted, 
 use Rattle.files.specs.Sizes.{image_words, data_words, disk_words, frame_bytes, image_digits, word_digits, frame_digits, is_image_length, is_data_length, is_frame_length, is_part_length}
 use Rattle.files.specs.MemoryFile.{word_questions, lines_outcome}
 use Rattle.files.specs.MemoryFile.{write_outcome as file_writes, read_outcome as file_reads}
-use Rattle.machine.specs.declared.Record.{Record}
 use Rattle.saved.specs.Sound.{is_sound}
 use Rattle.saved.specs.Calls.{save_questions, save_outcome, save_bytes, load_questions, load_outcome, load_record}
 use Rattle.saved.proofs.SoundTest.{sound_test}
 use Rattle.saved.proofs.TripLaws.{load_sound}
-use Rattle.claim.specs.Calls.{Halves, none, halves, Call, run, Done, ran, refuse, Ran, run_outcome, run_call, trip_call, call, standing}
+use Rattle.claim.specs.Calls.{none, halves, Call, run, Done, run_outcome, run_call, trip_call, call, standing}
 use Rattle.claim.specs.Demand.{Demand3, Trace, done, then}
-use Rattle.runner.specs.Lab.{lab, Standing, Fresh, record_in, run_questions, Kind, the_record, the_image, the_data, the_frame, the_sectors, Carried, place}
+use Rattle.runner.specs.Lab.{lab, Standing, Fresh, record_in, run_questions, Kind, the_image, the_data, the_frame, the_sectors, Carried, place}
 use Rattle.runner.specs.RealCalls.{trip_done}
 use Rattle.runner.proofs.LabLaws.{Good, good-fresh, good-after}
 use Rattle.runner.proofs.Trips.{IsRead, goes_by, record_goes}
 use Rattle.runner.proofs.Demand3.{demand3_met, fresh_any}
-use Rattle.simp.specs.Numbers.{record_numbers, record_of, numbers_of}
+use Rattle.simp.specs.Numbers.{record_numbers, record_of}
 use Rattle.simp.specs.Files.{Reads, Writes}
 use Rattle.simp.specs.Records.{Saves, Loads}
 use Rattle.simp.specs.Runs.{report_numbers, report_of, simp_run, Runs}

@@ -2,14 +2,14 @@
 // `lab resume IMEM .. LOG`. Without a word it prints what they are; with a word alone, how that command is used.
 #![tactic(auto)]
 
+mod command_words;
 mod help;
-mod words;
 
+use crate::command_words::command_of;
 use crate::help::{
     print_hex_help, print_list_help, print_overview, print_picture_help, print_resume_help,
     print_show_help,
 };
-use crate::words::command_of;
 use commands::{draw_frame, list_file, show_record};
 use console::{NAME, are_names, argument, argument_count, open_missing_standard_streams};
 use hex_commands::{Conversion, conversion_at, convert};

@@ -4,6 +4,7 @@
 
 mod core_lines;
 mod cycles;
+mod last_word;
 mod log;
 mod numbers;
 mod pc;
@@ -13,7 +14,6 @@ mod record;
 mod register_lines;
 mod registers;
 mod status;
-mod words;
 
 pub use cycles::put_cycles;
 pub use log::split_log;

@@ -6,7 +6,7 @@ ghost use Rattle.text.specs.Place.{put, PutsWithin};
 ghost use Rattle.isa.specs.Registers.{register_name, io_name};
 ghost use Rattle.outputs.specs.RecordText.{word_line, saved_registers, register_line, saved_io, io_line};
 
-use crate::words::put_last_word;
+use crate::last_word::put_last_word;
 use names::put_io_name;
 use text::place::put_bytes;
 

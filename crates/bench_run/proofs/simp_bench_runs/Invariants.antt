@@ -1,13 +1,8 @@
-use Prim.Native.Nat.{◌-◌, ◌+◌}
-use mathlib.Core.Path.{◌≡◌, refl, ◌∙◌}
-use native.Mathlib.Omega.{arith}
+use mathlib.Core.Path.{◌≡◌}
 use lib.ListN.{length}
-use borrow.Author.Rules.{rules}
 use Rattle.saved.specs.Calls.{fresh_record}
 use Rattle.runner.specs.Lab.{standing_of}
-use Rattle.runner.specs.Answers.{done_of}
-use Rattle.bench_run.specs.ByCalls.{stands_with}
-use Rattle.bench_run.proofs.LoopLaws.{Made, none_made, one_more, within, by_calls, by_idle}
+use Rattle.bench_run.proofs.LoopLaws.{Made}
 use Rattle.bench_run.proofs.simp_bench_runs.Given as goal
 
 abbrev pub invariant-loop-left : goal.invariant-loop-left

@@ -10,9 +10,12 @@ pub loop-p-preserved : goal.loop-p-preserved
 loop-p-preserved c = let l = c.loop-p in
     let e = c.line_end-e in
     let f = c.first_form-f in
-    let o = c.note_label-m in
-    (one_noted l.invariant.0 c.loop-p-test.true e.result e.ensures.0 _ f.result f.ensures o.result _ _ o.ensures c.after_code-n.result c.after_code-n.ensures,
-      omega (arith, e.ensures.1), o.ensures.sizes.0 ∙ l.invariant.2, f.ensures.room)
+    let o = c.note_label-m in (
+      one_noted l.invariant.0 c.loop-p-test.true e.result e.ensures.0 _ f.result f.ensures o.result _ _ o.ensures c.after_code-n.result c.after_code-n.ensures,
+      omega (arith, e.ensures.1),
+      o.ensures.sizes.0 ∙ l.invariant.2,
+      f.ensures.room,
+    )
 
 pub returns : goal.returns
 returns c = (all_found c.loop-p.invariant.0 (omega arith), c.loop-p.invariant.3)

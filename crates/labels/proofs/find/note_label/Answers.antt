@@ -19,7 +19,12 @@ returns c = let s = c.requires in let yes-label = sym c.has_label.ensures ∙ c.
     let l = label_of_lem s.0 s.1 s.3 yes-label in let a = c.args in
     record {
       none = λ q. absurd (false≢true (sym q ∙ yes-label));
-      some = λ q. (refl, c.add.ensures.0, c.add.ensures.1 ∙ names_more (names_of a.source.now a.table.now a.m) _ _ l.is, c.note_value.ensures,
-        omega (arith, l.order, l.within));
+      some = λ q. (
+        refl,
+        c.add.ensures.0,
+        c.add.ensures.1 ∙ names_more (names_of a.source.now a.table.now a.m) _ _ l.is,
+        c.note_value.ensures,
+        omega (arith, l.order, l.within),
+      );
       sizes = (c.add.ensures.2, size_kept (ltb a.m 1024) a.values.now _ a.m a.n c.note_value.ensures);
     }

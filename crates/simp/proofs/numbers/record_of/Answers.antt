@@ -5,7 +5,6 @@ use mathlib.Core.Logic.{inl, inr}
 use native.Mathlib.Omega.{arith}
 use lib.ListN.{length}
 use lib.Seq.{length-take-le}
-use borrow.Author.Tests.{not-true, not-false}
 use Rattle.isa.specs.Registers.{io_bits}
 use Rattle.bitpack.specs.Packed.{fit}
 use Rattle.saved.specs.Layout.{widths, record_of}

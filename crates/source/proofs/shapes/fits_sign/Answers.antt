@@ -32,5 +32,13 @@ returns-then-sign-eq46 c = rw c.if-sign-eq46.true c.are_same-then-sign-eq46.ensu
 
 pub returns : goal.returns
 unfolding fits
-returns c = rw (ne_eqb _ _ c.if-sign-eq58.false, ne_eqb _ _ c.if-sign-eq111.false, ne_eqb _ _ c.if-sign-eq36.false, ne_eqb _ _ c.if-sign-eq44.false, ne_eqb _ _
-    c.if-sign-eq48.false, ne_eqb _ _ c.if-sign-eq105.false, ne_eqb _ _ c.if-sign-eq46.false)
+returns c = rw (
+  ne_eqb _ _ c.if-sign-eq58.false,
+  ne_eqb _ _ c.if-sign-eq111.false,
+  ne_eqb _ _ c.if-sign-eq36.false,
+  ne_eqb _ _ c.if-sign-eq44.false,
+  ne_eqb _ _
+      c.if-sign-eq48.false,
+  ne_eqb _ _ c.if-sign-eq105.false,
+  ne_eqb _ _ c.if-sign-eq46.false,
+)

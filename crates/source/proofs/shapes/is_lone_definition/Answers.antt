@@ -13,4 +13,4 @@ pub returns : goal.returns
 unfolding fits
 returns c =
     λ directive. one_sign directive _ _ (as_many c.requires.0 (bytes ":") (omega (arith, c.requires.1)) (sym c.if-n-ne1.false)) _ (c.requires.0.placed 0 (omega arith)).is
-      c.is_definition.result c.is_definition.ensures
+    c.is_definition.result c.is_definition.ensures

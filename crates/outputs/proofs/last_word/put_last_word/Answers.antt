@@ -3,7 +3,7 @@ use Rattle.text.specs.Numerals.{digits}
 use Rattle.text.proofs.DigitLaws.{length_digits}
 use Rattle.trace.specs.LogLines.{field}
 use Rattle.text.proofs.PieceLaws.{store_after}
-use Rattle.outputs.proofs.words.put_last_word.Goals as goal
+use Rattle.outputs.proofs.last_word.put_last_word.Goals as goal
 
 pub returns : goal.returns
 returns c =

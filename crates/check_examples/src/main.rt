@@ -1,5 +1,7 @@
 // Runs the folders that its arguments name, each from the fresh record with budget 100,000 cycles. Of each it prints the folder's name, the log and
 // the line E; where a file of the folder is refused, the line N in place of the log.
+#![tactic(auto)]
+
 mod load;
 mod open;
 

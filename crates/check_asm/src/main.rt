@@ -11,17 +11,19 @@
 //
 // At the end the points on the lister, L1 to L3: `ok` with the count of bytes, or `N` with the number and the place, and then the lent text, which
 // holds 80 dots before.
+#![tactic(auto)]
+
 mod built;
-mod files;
 mod lister_points;
 mod listing;
 mod memories;
 mod print;
+mod text_files;
 mod trial;
 
 use crate::built::try_built;
-use crate::files::try_argument;
 use crate::lister_points::try_lister;
+use crate::text_files::try_argument;
 use crate::trial::try_lengths;
 use console::argument_count;
 

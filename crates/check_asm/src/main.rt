@@ -14,16 +14,16 @@
 #![tactic(auto)]
 
 mod built;
-mod given_files;
 mod lister_points;
 mod listing;
 mod memories;
 mod print;
+mod text_files;
 mod trial;
 
 use crate::built::try_built;
-use crate::given_files::try_argument;
 use crate::lister_points::try_lister;
+use crate::text_files::try_argument;
 use crate::trial::try_lengths;
 use console::argument_count;
 

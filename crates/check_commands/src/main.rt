@@ -9,6 +9,8 @@
 //     equal A B                    says whether two files hold the same bytes;
 //     numbers                      the lines of the refusals 0 to 21 at place 7, and of 12 and 16 at place 0.
 // Before each step it prints the step's words. Where data/ has files that are expected, its README.md says where they come from.
+#![tactic(auto)]
+
 mod compare;
 mod steps;
 

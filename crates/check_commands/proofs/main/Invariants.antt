@@ -1,5 +1,4 @@
 use Prim.Native.Nat.{◌+◌, ◌≤◌}
-use borrow.Author.Rules.{rules}
 use Rattle.check_commands.proofs.main.Given as goal
 
 abbrev pub invariant-loop-left : goal.invariant-loop-left

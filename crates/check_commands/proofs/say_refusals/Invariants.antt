@@ -1,5 +1,4 @@
 use Prim.Native.Nat.{◌≤◌, ◌-◌}
-use borrow.Author.Rules.{rules}
 use Rattle.check_commands.proofs.say_refusals.Given as goal
 
 abbrev pub invariant-loop-number : goal.invariant-loop-number

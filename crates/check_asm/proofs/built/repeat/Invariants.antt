@@ -1,11 +1,7 @@
-use mathlib.Core.Path.{◌≡◌, refl, sym, ◌∙◌}
+use mathlib.Core.Path.{◌≡◌}
 use Prim.Native.Nat.{◌≤◌}
-use native.Mathlib.Omega.{arith}
 use lib.ListN.{length, replicate}
-use borrow.Author.Rules.{rules}
 use Rattle.console.specs.Line.{Line, with_pieces}
-use Rattle.console.proofs.ReadLaws.{within}
-use Rattle.check_asm.proofs.BuiltLaws.{repeat_turn, repeat_end}
 use Rattle.check_asm.proofs.built.repeat.Given as goal
 
 abbrev pub invariant-loop-left : goal.invariant-loop-left

@@ -1,7 +1,6 @@
 use Prim.Native.Nat.{◌-◌}
 use lib.ListN.{length}
-use borrow.Author.Rules.{rules}
-use Rattle.check_asm.proofs.AllLaws.{AreFirst, none_passed, one_passed, one_differs, all_passed}
+use Rattle.check_asm.proofs.AllLaws.{AreFirst}
 use Rattle.check_asm.proofs.memories.are_all_long.Given as goal
 
 abbrev pub invariant-loop-i : goal.invariant-loop-i

@@ -1,9 +1,6 @@
 use Prim.Native.Nat.{◌-◌}
-use mathlib.Core.Path.{refl}
-use native.Mathlib.Omega.{arith}
 use lib.ListN.{length}
-use borrow.Author.Rules.{rules}
-use Rattle.text.proofs.SameLaws.{Alike, other_length, one_alike, one_other, all_alike}
+use Rattle.text.proofs.SameLaws.{Alike}
 use Rattle.check_asm.proofs.memories.are_same.Given as goal
 
 abbrev pub invariant-loop-i : goal.invariant-loop-i

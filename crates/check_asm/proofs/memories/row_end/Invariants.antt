@@ -1,10 +1,7 @@
-use mathlib.Core.Path.{◌≡◌, refl, sym, ◌∙◌}
+use mathlib.Core.Path.{◌≡◌}
 use Prim.Native.Nat.{◌+◌, ◌-◌, ◌≤◌, ◌<◌}
-use native.Mathlib.Omega.{arith}
 use lib.ListN.{length, drop}
-use borrow.Author.Rules.{rules}
 use Rattle.check_asm.specs.Rows.{in_row, row_end}
-use Rattle.check_asm.proofs.RowLaws.{row_more, row_stops, row_ends}
 use Rattle.check_asm.proofs.memories.row_end.Given as goal
 
 abbrev pub invariant-loop-end : goal.invariant-loop-end

@@ -1,9 +1,6 @@
 use Prim.Native.Nat.{◌+◌, ◌-◌, ◌≤◌}
-use mathlib.Core.Path.{◌≡◌, refl}
-use native.Mathlib.Omega.{arith}
+use mathlib.Core.Path.{◌≡◌}
 use lib.ListN.{length, drop}
-use borrow.Author.Rules.{rules}
-use Rattle.commands.proofs.CountLaws.{one_at_most, one-counted, all-counted}
 use Rattle.text.specs.Lines.{lines}
 use Rattle.lines.specs.Parts.{most_places}
 use Rattle.labels.specs.Text.{code_count}

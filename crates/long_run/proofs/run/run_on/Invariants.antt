@@ -1,14 +1,5 @@
-use Prim.Native.Nat.{◌-◌}
-use mathlib.Core.Path.{◌≡◌, sym, ◌∙◌}
-use mathlib.Core.Bool.{true, false, ◌&&◌}
-use native.Mathlib.Omega.{arith}
-use lib.Seq.{length-take-le}
-use borrow.Author.Rules.{rules}
-use borrow.Author.Tests.{not-true, not-false}
-use Rattle.text.proofs.Truth.{and_right}
 use Rattle.runner.specs.Lab.{machine_of}
-use Rattle.long_run.specs.Pieces.{is_log_full}
-use Rattle.long_run.proofs.PieceLaws.{On, on_first, on_more, on_last, on_starts, on_over}
+use Rattle.long_run.proofs.PieceLaws.{On}
 use Rattle.long_run.proofs.run.run_on.Given as goal
 
 abbrev pub invariant-loop-rt : goal.invariant-loop-rt

@@ -18,7 +18,7 @@ pub fn load_memories(
     memory: &mut [u32; 4096],
     disk: &mut [u32; 16384],
 ) -> Outcome
-    ensures { MemoriesLoaded result (record { image = image.entry.now; memory = memory.old; disk = disk.old }) (record { image = image.exit.now; memory = memory.new; disk = disk.new }) }
+    ensures { MemoriesLoaded result (record { image = image.old; memory = memory.old; disk = disk.old }) (record { image = image.new; memory = memory.new; disk = disk.new }) }
 {
     let outcome = load_image(rt, folder, image);
     if outcome.number != 0 {

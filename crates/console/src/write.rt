@@ -11,11 +11,10 @@ use crate::output::say_of;
 use crate::path::{PATH, put_new_path};
 use std::fs::File;
 use std::io::{Error, ErrorKind, Write};
+use std::{fs, io};
 
 // What the system says of a descriptor that is not open.
 const EBADF: i32 = 9;
-
-use std::{fs, io};
 
 // Writes all of a new file, which `commit_file` puts into the place of the old one, or `drop_file` removes. Where it can't be written, the old one stays, standard error
 // tells why and standard output that it is not written.
@@ -123,16 +122,16 @@ pub fn end_file(rt: HostRuntime, path: &[u8], w: Writing) -> Writing
 // Brings what was written to the disk. What a link leads to, a device or a pipe may have none.
 fn flush(w: &Writing) -> io::Result<()> {
     match &w.file {
-        Some(file) => flush_file(file, w.is_new),
+        Some(file) => flush_file(file),
         None => Ok(()),
     }
 }
 
-// Brings an open file to the disk; one that is not new may have none.
-fn flush_file(file: &File, is_new: bool) -> io::Result<()> {
+// Brings an open file to the disk, if it has one.
+fn flush_file(file: &File) -> io::Result<()> {
     match file.sync_all() {
         Ok(()) => Ok(()),
-        Err(error) if is_new || !is_without_disk(error.kind()) => Err(error),
+        Err(error) if !is_without_disk(error.kind()) => Err(error),
         Err(_) => Ok(()),
     }
 }
@@ -159,10 +158,17 @@ pub fn commit_file(rt: HostRuntime, path: &[u8], w: Writing) -> bool
     if is_no_file(&w) {
         return false;
     }
-    if w.is_new {
+    let is_new = w.is_new;
+    close(w);
+    if is_new {
         return replace_old(rt, path);
     }
     true
+}
+
+// Closes a file.
+fn close(w: Writing) {
+    drop(w);
 }
 
 // Puts a new file into the place of the old one, and answers whether it is there then.
@@ -189,7 +195,9 @@ pub fn drop_file(rt: HostRuntime, path: &[u8], w: Writing) {
     if is_no_file(&w) {
         return;
     }
-    if !w.is_new {
+    let is_new = w.is_new;
+    close(w);
+    if !is_new {
         return;
     }
     let mut room = [0u8; PATH];

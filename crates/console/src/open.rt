@@ -1,12 +1,17 @@
 // Files opened by their paths. A path is bytes; the system's library takes those that are UTF-8 text, and another names no file.
+ghost use Rattle.std.specs.Prelude.{◌≡◌, MatchResult};
+ghost use Rattle.std.specs.Str.{IsUtf8};
+
 use std::fs::{File, OpenOptions};
 use std::io;
 
 // What the system says of bytes that are no text.
 const EILSEQ: i32 = 84;
 
-// The path as text.
-pub fn path_text(path: &[u8]) -> io::Result<&str> {
+// The path as text, where it is text.
+pub fn path_text(path: &[u8]) -> io::Result<&str>
+    ensures { MatchResult result (λ text. text.now ≡ path.now) (λ _. ¬ (IsUtf8 path.now)) }
+{
     match str::from_utf8(path) {
         Ok(text) => Ok(text),
         Err(_) => Err(io::Error::from_raw_os_error(EILSEQ)),

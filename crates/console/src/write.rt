@@ -1,5 +1,5 @@
 // Files written. A new file is written beside the old one and takes its place when all of it is there, so nobody sees a part of it.
-ghost use Rattle.std.specs.Prelude.{◌≡◌};
+ghost use Rattle.std.specs.Prelude.{◌≡◌, false, IfOk};
 ghost use Rattle.std.specs.Result.{result_ok};
 ghost use Rattle.console.specs.Writings.{no_file, is_no_file, through, Begun, BegunNew, Ended, Committed};
 
@@ -36,7 +36,9 @@ pub fn write_new_file(rt: HostRuntime, path: &[u8], bytes: &[u8]) -> Writing
 }
 
 // Writes bytes to the end of a file that is begun. One that can't be written is no open file.
-pub fn write_more(w: &Writing, bytes: &[u8]) -> io::Result<()> {
+pub fn write_more(w: &Writing, bytes: &[u8]) -> io::Result<()>
+    ensures { IfOk result (λ _. is_no_file w.now ≡ false) }
+{
     match &w.file {
         Some(file) => write_bytes(file, bytes),
         None => Err(Error::from_raw_os_error(EBADF)),

@@ -14,7 +14,7 @@ use Rattle.text.proofs.DecimalLaws.{length-decimal}
 use Rattle.text.proofs.DigitLaws.{length_digits}
 use Rattle.text.proofs.PieceLaws.{more, store_after}
 use Rattle.text.proofs.PutLaws.{length-put}
-use Rattle.outputs.specs.Counts.{IsPrefixLen}
+use Rattle.console.specs.Counts.{IsPrefixLen}
 
 -- The list d has become e, with xs put at a place, and the place after them is `to`.
 abbrev pub Piece : List ℕ → ℕ → List ℕ → List ℕ → ℕ → Type 0

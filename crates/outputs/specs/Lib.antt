@@ -1,5 +1,4 @@
 -- The texts that the programs write and print of a run.
-pub mod Counts
 pub mod LogFiles
 pub mod Cycles
 pub mod Statuses

@@ -3,7 +3,7 @@ use Rattle.std.specs.Prelude.{ℕ, ◌≡◌, Bool, true, false, cond, eqb, leng
 use Prim.Native.Char.{code}
 use Rattle.std.proofs.Math.Bool.{Bool-discrete}
 use mathlib.Core.List.{List, [], ◌∷◌, ◌++◌, map, filter}
-use Rattle.outputs.specs.Counts.{IsPrefixLen}
+use Rattle.console.specs.Counts.{IsPrefixLen}
 use Rattle.text.specs.Lines.{LF, lines, unlines}
 use Rattle.text.specs.Place.{put}
 

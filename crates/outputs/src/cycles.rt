@@ -1,7 +1,7 @@
 // cycles.txt.
 ghost use Rattle.std.specs.Prelude.{◌≡◌, ◌≤◌, length};
 ghost use Rattle.text.specs.Place.{put};
-ghost use Rattle.outputs.specs.Counts.{IsPrefixLen};
+ghost use Rattle.console.specs.Counts.{IsPrefixLen};
 ghost use Rattle.outputs.specs.Cycles.{cycles_text};
 
 use crate::numbers::put_number_line;

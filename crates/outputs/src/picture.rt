@@ -1,6 +1,6 @@
 // The picture of a frame.
 ghost use Rattle.std.specs.Prelude.{◌≡◌, ◌+◌, ◌≤◌, length};
-ghost use Rattle.outputs.specs.Counts.{IsPrefixLen};
+ghost use Rattle.console.specs.Counts.{IsPrefixLen};
 ghost use Rattle.text.specs.Place.{put};
 ghost use Rattle.outputs.specs.Picture.{picture_of};
 

@@ -1,7 +1,7 @@
 // Where and why a run stopped.
 ghost use Rattle.std.specs.Prelude.{◌+◌, ◌≤◌, length, ◌≡◌};
 ghost use Rattle.text.specs.Place.{put, PutsWithin};
-ghost use Rattle.outputs.specs.Counts.{IsPrefixLen};
+ghost use Rattle.console.specs.Counts.{IsPrefixLen};
 ghost use Rattle.outputs.specs.Reasons.{unfinished, cause_of, reason_line};
 
 use crate::pc::put_pc;

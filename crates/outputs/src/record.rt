@@ -1,7 +1,7 @@
 // A record by its fields, a line each.
 ghost use Rattle.std.specs.Prelude.{◌≡◌, ◌≤◌, length};
 ghost use Rattle.text.specs.Place.{put};
-ghost use Rattle.outputs.specs.Counts.{IsPrefixLen};
+ghost use Rattle.console.specs.Counts.{IsPrefixLen};
 ghost use Rattle.outputs.specs.RecordText.{record_text};
 
 use crate::core_lines::put_core_lines;

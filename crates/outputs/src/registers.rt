@@ -3,7 +3,7 @@ ghost use Rattle.std.specs.Prelude.{◌≡◌, ◌≤◌, length};
 ghost use Rattle.text.specs.Place.{put};
 ghost use Rattle.files.specs.Sizes.{word_digits};
 ghost use Rattle.files.specs.MemoryFile.{file_text};
-ghost use Rattle.outputs.specs.Counts.{IsPrefixLen};
+ghost use Rattle.console.specs.Counts.{IsPrefixLen};
 
 use files::{WORD_DIGITS, put_words};
 use text::digits::hex_pairs;

@@ -1,23 +1,21 @@
 -- What the assembler's call answers and leaves. Assumes nothing.
+use Rattle.std.specs.Prelude.{Result, Ok, Err}
 use Prim.Native.Nat.{ℕ, ◌≤◌, ◌<◌}
 use mathlib.Core.Path.{◌≡◌, refl, sym, ◌∙◌, ap}
 use mathlib.Core.Bool.{Bool, true, false, ◌&&◌}
 use mathlib.Core.List.{List}
 use native.Mathlib.Omega.{arith}
-use lib.Dec.{leb}
-use lib.ListN.{length, replicate, length-replicate}
+use lib.Dec.{leb, eqb}
+use lib.ListN.{length}
 use borrow.Author.Tests.{leb-true, le-leb, lt-leb, eqb-true, ne_eqb}
 use Rattle.text.specs.declared.Outcome.{Outcome}
 use Rattle.text.specs.Questions.{refused}
 use Rattle.text.proofs.Truth.{and_left, and_right}
 use Rattle.files.specs.Sizes.{image_words, data_words, is_image_length, is_data_length}
-use Rattle.assembler.specs.declared.Assembled.{Assembled}
-use Rattle.assembler.specs.declared.Assembled.TheVariants.{Done, WrongLength}
-use Rattle.assembler.specs.declared.Refusal.{Refusal}
-use Rattle.assembler.specs.Answers.{assembled_outcome}
+use Rattle.assembler.specs.declared.AssembleError.{AssembleError}
+use Rattle.assembler.specs.declared.AssembleError.TheVariants.{WrongLength, BadBytes, WrongForm, UnknownName, OutOfRange, DefinedBefore, Undefined, NoPlace}
+use Rattle.assembler.specs.Answers.{refusal_of}
 use Rattle.symbols.specs.Table.{entry_at}
-use Rattle.symbols.specs.Sound.{Empty}
-use Rattle.symbols.proofs.EmptyLaws.{zeros_empty}
 use Rattle.labels.specs.Limits.{most_source}
 use Rattle.labels.specs.Tables.{labels_within}
 use Rattle.assembler.specs.Questions.{text_outcome, assemble_outcome}
@@ -29,22 +27,16 @@ use Rattle.assembler.specs.Passes.{Translated}
 abbrev large_words : ℕ
 large_words = 357720
 
-pub large_empty : Empty (replicate large_words 0)
-large_empty = zeros_empty large_words (omega arith)
-
 -- It has room for the labels of any text.
-pub large_room : (source : List ℕ) → length source ≤ most_source → entry_at (labels_within (length source)) ≤ length (replicate {A = ℕ} large_words 0)
-large_room source h = rw (length-replicate {A = ℕ} large_words 0) (enough (length source) h)
-  where
-    enough : (n : ℕ) → n ≤ most_source → entry_at (labels_within n) ≤ large_words
-    enough n h = omega arith
+pub large_room : (source : List ℕ) → length source ≤ most_source → large_words < entry_at (labels_within (length source)) → ⊥
+large_room source h full = omega arith
 
 -- ---- the call
 
 -- The lent lengths were asked, and r is the answer.
 module _ (source image memory : List ℕ) (r : Bool) (is : r ≡ (leb (length source) most_source && is_image_length (length image) && is_data_length (length memory))) where
   -- They are not right.
-  pub wrong_length : r ≡ false → Assembling source image memory WrongLength image memory
+  pub wrong_length : r ≡ false → Assembling source image memory (Err WrongLength) image memory
   unfolding assemble_outcome
   wrong_length e =
       record {
@@ -71,7 +63,7 @@ unfolding assemble_outcome
 long_refused source image memory_words long = rw (lt-leb (length source) most_source long)
 
 -- .. so two such sources are assembled alike.
-pub long_alike : (a b image memory : List ℕ) {r : Assembled} {image_after memory_after : List ℕ} → most_source < length a → most_source < length b
+pub long_alike : (a b image memory : List ℕ) {r : Result (Unit {0}) AssembleError} {image_after memory_after : List ℕ} → most_source < length a → most_source < length b
     → Assembling a image memory r image_after memory_after → Assembling b image memory r image_after memory_after
 long_alike a b image memory long-a long-b p =
     let no = p.answer ∙ long_refused a (length image) (length memory) long-a in
@@ -86,27 +78,40 @@ long_alike a b image memory long-a long-b p =
 
 -- With right lengths, both passes over a text tell what is answered.
 module _ (source image memory : List ℕ) (s : length source ≤ most_source) (i : length image ≡ image_words) (m : length memory ≡ data_words)
-    (t : Refusal) (words memory_words : List ℕ) (outcome : Translated source t words memory_words) where
+    (words memory_words : List ℕ) where
   text-outcome : text_outcome source ≡ assemble_outcome source (length image) (length memory)
   unfolding assemble_outcome
   text-outcome = rw (le-leb (length source) most_source s, i, m)
 
   -- A line is refused.
-  pub line_refused : (t.number ≡ 0 → ⊥) → (a : Assembled) → assembled_outcome a ≡ refused t.number t.line → Assembling source image memory a image memory
-  line_refused n a q =
+  pub line_refused : (error : AssembleError) → Translated source (Err error) words memory_words → Assembling source image memory (Err error) image memory
+  line_refused error t =
       record {
-        answer = q ∙ sym (outcome.some n) ∙ text-outcome;
-        words = rw (q, ne_eqb t.number 0 n);
-        memory_words = rw (q, ne_eqb t.number 0 n);
-        high_bits = λ z. absurd (n (ap (λ (x : Outcome). x.number) (sym q ∙ z)));
+        answer = t.answer ∙ text-outcome;
+        words = rw (no_number error);
+        memory_words = rw (no_number error);
+        high_bits = λ z. absurd (some_number error (ap (λ (x : Outcome). x.number) z));
       }
+    where
+      some_number : (error : AssembleError) → (refusal_of error).number ≡ 0 → ⊥
+      some_number WrongLength e = omega arith
+      some_number (BadBytes line) e = omega arith
+      some_number (WrongForm line) e = omega arith
+      some_number (UnknownName line) e = omega arith
+      some_number (OutOfRange line) e = omega arith
+      some_number (DefinedBefore line) e = omega arith
+      some_number (Undefined line) e = omega arith
+      some_number (NoPlace line) e = omega arith
+
+      no_number : (error : AssembleError) → eqb (refusal_of error).number 0 ≡ false
+      no_number error = ne_eqb (refusal_of error).number 0 (some_number error)
 
   -- None is.
-  pub text-good : t.number ≡ 0 → (image_after memory_after : List ℕ) → image_after ≡ words → memory_after ≡ memory_words → Assembling source image memory Done image_after memory_after
-  text-good n image_after memory_after a b =
+  pub text-good : Translated source (Ok tt) words memory_words → (image_after memory_after : List ℕ) → image_after ≡ words → memory_after ≡ memory_words → Assembling source image memory (Ok tt) image_after memory_after
+  text-good t image_after memory_after a b =
       record {
-        answer = sym (outcome.none n) ∙ text-outcome;
-        words = a ∙ outcome.code n;
-        memory_words = b ∙ outcome.stores n;
-        high_bits = λ z. rw a outcome.high_bits;
+        answer = t.answer ∙ text-outcome;
+        words = a ∙ t.code refl;
+        memory_words = b ∙ t.stores refl;
+        high_bits = λ z. rw a t.high_bits;
       }

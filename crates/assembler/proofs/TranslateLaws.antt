@@ -1,13 +1,16 @@
 -- The second pass over the lines of a text. Assumes nothing.
+use Rattle.std.specs.Prelude.{Ok, Err}
+use Rattle.std.specs.Int.{from_bool}
 use Prim.Native.Nat.{ℕ, suc, ◌+◌, ◌-◌, ◌^◌, ◌≤◌, ◌<◌}
 use mathlib.Core.Path.{◌≡◌, refl, sym, ◌∙◌, ap}
 use mathlib.Core.Bool.{Bool, true, false, cond, not, ◌||◌}
 use mathlib.Core.List.{List, [], ◌∷◌, ◌++◌, append-nil, append_assoc}
 use native.Mathlib.Omega.{arith}
 use lib.Dec.{leb, ltb}
-use lib.ListN.{length, set, take, drop, replicate, length-append, length-replicate, drop_of_length-le}
+use lib.ListN.{length, set, take, drop, replicate, length-append, length-replicate, drop_of_length-le, length-set}
 use lib.Seq.{take_at, set_at, append_snoc}
 use borrow.Author.Tests.{leb-true, ltb-true, not-true}
+use Rattle.text.specs.declared.Outcome.{Outcome}
 use Rattle.text.specs.Questions.{accepted, refused, first_no, first_bad}
 use Rattle.text.specs.Lines.{lines, first_line}
 use Rattle.text.specs.Ranges.{Below}
@@ -26,6 +29,10 @@ use Rattle.statements.specs.declared.Statement.{Statement}
 use Rattle.labels.specs.Text.{code_count, labels, are_right}
 use Rattle.statements.specs.Questions.{asked_if, last_address, line_questions}
 use Rattle.labels.specs.Limits.{most_labels}
+use Rattle.statements.specs.declared.LineError.{LineError}
+use Rattle.statements.specs.declared.LineError.TheVariants.{BadBytes, WrongForm, UnknownName, OutOfRange, DefinedBefore, Undefined, NoPlace}
+use Rattle.statements.specs.Errors.{number_of}
+use Rattle.assembler.specs.Answers.{refusal_of, at_line}
 use Rattle.assembler.specs.Questions.{text_outcome}
 use Rattle.statements.specs.Encoding.{encoded}
 use Rattle.assembler.specs.Memories.{code_of, assembled_image, stored, assembled_data}
@@ -34,8 +41,7 @@ use Rattle.statements.specs.Reading.{Usual, StatementRead, After}
 use Rattle.assembler.specs.Passes.{Translated}
 use Rattle.labels.proofs.TextLaws.{labels_append, code-append, right-append}
 use Rattle.assembler.proofs.MemoryLaws.{words_append, stored-append, length-words}
-use Rattle.statements.proofs.QuestionLaws.{line_passes, line_fails, line-number, GoodLine, passed}
-use Rattle.labels.proofs.FirstPassLaws.{size_kept}
+use Rattle.statements.proofs.QuestionLaws.{line_passes, line_fails, GoodLine, passed}
 
 -- ---- small facts
 
@@ -44,6 +50,38 @@ next_word : (code : List ℕ) (n x : ℕ) → length code ≡ n → n < image_wo
 next_word code n x e h =
     let one : image_words - n ≡ suc (image_words - (n + 1)) = omega arith in
     rw one (set_at code 0 (replicate (image_words - (n + 1)) 0) x n e ∙ sym (append_snoc code x (replicate (image_words - (n + 1)) 0)))
+
+-- One more is counted, or none.
+pub counted_on : (b : Bool) (n m : ℕ) → m ≡ n + from_bool b → m ≡ cond b (n + 1) n
+counted_on true n m e = e
+counted_on false n m e = omega arith
+
+-- A list in which at most one number is stored keeps its length.
+size_kept : (b : Bool) (l after : List ℕ) (i x : ℕ) → after ≡ cond b (set l i x) l → length after ≡ length l
+size_kept true l after i x e = ap length e ∙ length-set l i x
+size_kept false l after i x e = ap length e
+
+-- The error of a line tells its question and the line.
+line_told : (error : LineError) (line : ℕ) → refusal_of (at_line error line) ≡ refused (number_of error) line
+line_told BadBytes line = refl
+line_told WrongForm line = refl
+line_told UnknownName line = refl
+line_told OutOfRange line = refl
+line_told DefinedBefore line = refl
+line_told Undefined line = refl
+line_told NoPlace line = refl
+
+asked_no : (error : LineError) → number_of error ≡ 0 → ⊥
+asked_no BadBytes e = omega arith
+asked_no WrongForm e = omega arith
+asked_no UnknownName e = omega arith
+asked_no OutOfRange e = omega arith
+asked_no DefinedBefore e = omega arith
+asked_no Undefined e = omega arith
+asked_no NoPlace e = omega arith
+
+no_line : (error : LineError) (line : ℕ) → refusal_of (at_line error line) ≡ accepted 0 → ⊥
+no_line error line e = asked_no error (sym (ap (λ (t : Outcome). t.number) (line_told error line)) ∙ ap (λ (t : Outcome). t.number) e)
 
 -- ---- the second pass
 
@@ -106,7 +144,7 @@ module _ {source words memory : List ℕ} {p i n m : ℕ} (d : Translating sourc
   fewer {table} {values} {count} t = let size = sym (ap length t.names) ∙ length-names source table count in let h = after-done.within in omega arith
 
   -- All lines have passed.
-  pub all_translated : length source ≤ p → Translated source (record { number = 0; line = 0 }) words memory
+  pub all_translated : length source ≤ p → Translated source (Ok tt) words memory
   unfolding lines first_bad assembled_image assembled_data
   all_translated h =
       let none : drop p source ≡ [] = drop_of_length-le source h in
@@ -114,9 +152,7 @@ module _ {source words memory : List ℕ} {p i n m : ℕ} (d : Translating sourc
       let usual : Usual (lines source) = rw whole (record { right = d.right; few = rw d.count d.few; distinct = d.distinct }) in
       let size : length (code_of (lines source) d.done) ≡ n = length-words (lines source) d.done ∙ d.code in
       record {
-        none = λ q. d.outcome ∙ rw none;
-        some = λ q. absurd (q refl);
-        numbers = λ q. absurd (q refl);
+        answer = sym (d.outcome ∙ rw none);
         code = λ q. d.writes usual ∙ ap (λ (k : ℕ). code_of (lines source) d.done ++ replicate (image_words - k) 0) (sym size) ∙ ap (λ (x : List (List ℕ)). code_of (lines source) x ++ replicate (image_words - length (code_of (lines source) x)) 0) (sym whole);
         stores = λ q. d.stores ∙ ap (stored (replicate data_words 0)) (sym whole);
         high_bits = d.fits;
@@ -140,15 +176,13 @@ module _ {source words memory : List ℕ} {p i n m : ℕ} (d : Translating sourc
 
     module _ (q : ℕ) (asks : q ≡ (first_no (line_questions (lines source) d.done line) 0 (accepted 0)).number) where
       -- It is refused.
-      pub one_bad : (q ≡ 0 → ⊥) → Translated source (record { number = q; line = i + 1 }) words memory
-      one_bad n0 =
-          let some : (first_no (line_questions (lines source) d.done line) 0 (accepted 0)).number ≡ 0 → ⊥ = λ x. n0 (asks ∙ x) in
+      pub one_bad : (error : LineError) → q ≡ number_of error → Translated source (Err (at_line error (i + 1))) words memory
+      one_bad error is =
+          let some : (first_no (line_questions (lines source) d.done line) 0 (accepted 0)).number ≡ 0 → ⊥ = λ x. asked_no error (sym is ∙ asks ∙ x) in
           record {
-            none = λ x. absurd (n0 x);
-            some = λ x. outcome-here ∙ line_fails (lines source) d.done line (i + 1) _ some ∙ ap (λ (k : ℕ). refused k (i + 1)) (sym asks);
-            numbers = λ x. rw asks (line-number (lines source) d.done line some);
-            code = λ x. absurd (n0 x);
-            stores = λ x. absurd (n0 x);
+            answer = sym (outcome-here ∙ line_fails (lines source) d.done line (i + 1) _ some ∙ ap (λ (k : ℕ). refused k (i + 1)) (sym asks ∙ is) ∙ sym (line_told error (i + 1)));
+            code = λ x. absurd (no_line error (i + 1) x);
+            stores = λ x. absurd (no_line error (i + 1) x);
             high_bits = d.fits;
             sizes = (d.room, d.memory-room);
           }

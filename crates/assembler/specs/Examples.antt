@@ -8,7 +8,7 @@ use Rattle.text.specs.Lines.{lines, unlines}
 use Rattle.text.specs.Numerals.{digits, all_digits, value}
 use Rattle.isa.specs.Operations.{operation_names}
 use Rattle.isa.specs.Registers.{register_names}
-use Rattle.source.specs.Bytes.{are_all, are_right_bytes}
+use Rattle.source.specs.Bytes.{are_right_bytes}
 use Rattle.source.specs.Tokens.{tokens_from}
 use Rattle.source.specs.Numbers.{number}
 use Rattle.text.specs.Same.{same}
@@ -25,7 +25,7 @@ use Rattle.assembler.specs.Memories.{code_of, assembled_image, stored, assembled
 
 -- What a text is told, ..
 unfoldable outcome_of : List ℕ → Outcome
-unfolding assemble_outcome text_outcome line_questions is_known are_in_range is_word_in_range first_bad lines form_of shapes first_shape matches fits is_name is_register is_definition number same tokens_from are_right_bytes are_all all_digits value code_count labels is_among operation_names register_names
+unfolding assemble_outcome text_outcome line_questions is_known are_in_range is_word_in_range first_bad lines form_of shapes first_shape matches fits is_name is_register is_definition number same tokens_from are_right_bytes all_digits value code_count labels is_among operation_names register_names
 outcome_of source = assemble_outcome source 4096 4096
 
 unfoldable outcome : String → Outcome
@@ -34,7 +34,7 @@ outcome source = outcome_of (bytes source)
 
 -- .. and the image and the data memory that it gives.
 unfoldable image_of : List ℕ → List ℕ
-unfolding assembled_image code_of encoded immediate value_of lines_before code_count place_of lines form_of shapes first_shape matches fits is_name is_register is_definition number same tokens_from are_right_bytes are_all all_digits value operation_names register_names
+unfolding assembled_image code_of encoded immediate value_of lines_before code_count place_of lines form_of shapes first_shape matches fits is_name is_register is_definition number same tokens_from are_right_bytes all_digits value operation_names register_names
 image_of source = assembled_image source
 
 unfoldable image : String → List ℕ
@@ -42,7 +42,7 @@ unfolding image_of
 image source = image_of (bytes source)
 
 unfoldable words : String → List ℕ
-unfolding assembled_data stored lines form_of shapes first_shape matches fits is_name is_register is_definition number same tokens_from are_right_bytes are_all all_digits value
+unfolding assembled_data stored lines form_of shapes first_shape matches fits is_name is_register is_definition number same tokens_from are_right_bytes all_digits value
 words source = assembled_data (bytes source)
 
 -- The word of a text that has one instruction.
@@ -333,12 +333,12 @@ defined_nowhere = refl
 
 -- What the last line of a text is told, after these lines; ..
 unfoldable asked : (before : List (List ℕ)) → String → Outcome
-unfolding line_questions is_known are_in_range is_word_in_range form_of shapes first_shape matches fits is_name is_register is_definition number same tokens_from are_right_bytes are_all all_digits value code_count labels is_among operation_names register_names
+unfolding line_questions is_known are_in_range is_word_in_range form_of shapes first_shape matches fits is_name is_register is_definition number same tokens_from are_right_bytes all_digits value code_count labels is_among operation_names register_names
 asked before line = first_no (line_questions (before ++ (bytes line ∷ [])) before (bytes line)) 0 (accepted 0)
 
 -- .. and the first, before these.
 unfoldable asked_first : (after : List (List ℕ)) → String → Outcome
-unfolding line_questions is_known are_in_range is_word_in_range form_of shapes first_shape matches fits is_name is_register is_definition number same tokens_from are_right_bytes are_all all_digits value code_count labels is_among operation_names register_names
+unfolding line_questions is_known are_in_range is_word_in_range form_of shapes first_shape matches fits is_name is_register is_definition number same tokens_from are_right_bytes all_digits value code_count labels is_among operation_names register_names
 asked_first after line = first_no (line_questions (bytes line ∷ after) [] (bytes line)) 0 (accepted 0)
 
 -- So many instructions, and so many labels: `L1023:` and so on, down to `L0000:`.

@@ -1,24 +1,25 @@
 -- What both passes over a text know (for the code).
-use Rattle.std.specs.Prelude.{ℕ, ◌≤◌, ◌^◌, ◌≡◌, true, false, List, length, replicate}
-use Rattle.text.specs.Questions.{accepted, refused}
+use Rattle.std.specs.Prelude.{ℕ, ◌<◌, ◌^◌, ◌≡◌, Option, Some, None, Result, List, length, replicate}
+use Rattle.text.specs.Questions.{accepted}
 use Rattle.text.specs.Ranges.{Below}
 use Rattle.files.specs.Sizes.{image_words, data_words}
-use Rattle.assembler.specs.declared.Refusal.{Refusal}
-use Rattle.assembler.specs.declared.BothPasses.{BothPasses}
+use Rattle.symbols.specs.Table.{entry_at}
+use Rattle.labels.specs.Tables.{labels_within}
+use Rattle.assembler.specs.declared.AssembleError.{AssembleError}
+use Rattle.assembler.specs.Answers.{assembled_outcome}
 use Rattle.assembler.specs.Questions.{text_outcome}
 use Rattle.assembler.specs.Memories.{assembled_image, assembled_data}
 
--- The first question that a line of a text gets a no to and the line, or 0; and what the lines before it store in memories that are zero.
-pub record Translated (source : List ℕ) (r : Refusal) (words memory_words : List ℕ) : Type 0 where
-  pub none : r.number ≡ 0 → text_outcome source ≡ accepted 0
-  pub some : (r.number ≡ 0 → ⊥) → text_outcome source ≡ refused r.number r.line
-  pub numbers : (r.number ≡ 0 → ⊥) → (2 ≤ r.number) × (r.number ≤ 8)
-  pub code : r.number ≡ 0 → words ≡ assembled_image source
-  pub stores : r.number ≡ 0 → memory_words ≡ assembled_data source
+-- What the lines of a text tell; and what they store in memories that are zero, where none is refused.
+pub record Translated (source : List ℕ) (r : Result (Unit {0}) AssembleError) (words memory_words : List ℕ) : Type 0 where
+  pub answer : assembled_outcome r ≡ text_outcome source
+  pub code : assembled_outcome r ≡ accepted 0 → words ≡ assembled_image source
+  pub stores : assembled_outcome r ≡ accepted 0 → memory_words ≡ assembled_data source
   pub high_bits : Below (2 ^ 48) words
   pub sizes : (length words ≡ image_words) × (length memory_words ≡ data_words)
 
--- Both passes over words and data that are zero, the second only if the table has room for all labels.
-pub record PassedWith (source : List ℕ) (r : BothPasses) (words memory_words : List ℕ) : Type 0 where
-  pub whole : r.whole ≡ true → Translated source r.refusal words memory_words
-  pub cut : r.whole ≡ false → (words ≡ replicate image_words 0) × (memory_words ≡ replicate data_words 0)
+-- Both passes over words and data that are zero, with a table of so many words; none where it has no room for all labels.
+abbrev pub PassedWith : (room : ℕ) (source : List ℕ) → Option (Result (Unit {0}) AssembleError) → (words memory_words : List ℕ) → Type 0
+PassedWith room source None words memory_words =
+    (room < entry_at (labels_within (length source))) × (words ≡ replicate image_words 0) × (memory_words ≡ replicate data_words 0)
+PassedWith room source (Some r) words memory_words = Translated source r words memory_words

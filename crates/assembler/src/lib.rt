@@ -7,11 +7,9 @@ mod translate;
 
 pub use calls::assemble;
 
-// What assembling answers. Places are lines, from 1.
+// Why a text is refused. Places are lines, from 1.
 #[derive(Clone, Copy)]
-pub enum Assembled {
-    // The image and the data memory are set.
-    Done,
+pub enum AssembleError {
     // The text is too long, or the image or the data memory has not its length.
     WrongLength,
     // The line is too long, or has a byte that may not stand in a line.
@@ -28,18 +26,4 @@ pub enum Assembled {
     Undefined(usize),
     // No address is left for the instruction or the label, or there are too many labels.
     NoPlace(usize),
-}
-
-// The first question that a line of a text got a no to, and the line; both are 0 where there is none.
-#[derive(Clone, Copy)]
-pub struct Refusal {
-    pub number: u32,
-    pub line: usize,
-}
-
-// What both passes find: whether the table had room for all labels of the text; if so, the refusal.
-#[derive(Clone, Copy)]
-pub struct BothPasses {
-    pub whole: bool,
-    pub refusal: Refusal,
 }

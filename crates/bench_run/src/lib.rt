@@ -1,4 +1,5 @@
 // Runs one after the other from the fresh record: what bench/ measures, and what demand 3 says of real calls.
+// Stays (3): each run says how many cycles it made, so the loop counts by what is left.
 #![tactic(auto)]
 
 ghost use Rattle.saved.specs.Calls.{fresh_record};
@@ -51,8 +52,7 @@ pub extern "C" fn simp_bench_runs(
     let mut left = budget;
     while 0 < left {
         let r = run(state, image, memory, disk, frame, irq2, left, log);
-        let next = r.state;
-        state = next;
+        state = r.state;
         if r.cycles == 0 {
             return budget - left;
         }

@@ -64,3 +64,11 @@ read {bytes} {i} {r} {k} p t x new ex et en =
     let most = at_most_one t x ex in
     let few = p.few in
     rw (add-one i) (record { last = en; done = rw (p.done, ex, et); few = omega arith })
+
+-- One that is refused.
+pub read_none : {bytes : List ℕ} {i : ℕ} {r : Record} {k : ℕ} → Reading bytes i r k
+    → (t : Outcome) → eqb t.number 0 ≡ false → (new : Record) → t ≡ load_outcome bytes → new ≡ load_record bytes
+    → Reading bytes (i + 1) new k
+read_none {bytes} {i} {r} {k} p t bad new et en =
+    let none : 0 ≡ one t = rw bad in
+    rw (add-zero k) at (read p t 0 new none et en)

@@ -1,41 +1,41 @@
 // The save as it was before change (iii), of edition 2: the packer that builds the bytes one at a time, and the test of widths that asks all and ends
 // at the first that does not fit. Kept for bench/ only.
+// Stays (2, 3, 6): the save as it was before change (iii), which bench/ measures beside the new one; a turn takes a byte out or a value in.
 ghost use Rattle.std.specs.Prelude.{◌≡◌, ◌^◌, ltb, length};
 ghost use Rattle.bitpack.specs.Packed.{fit, packed, bytes_of};
 ghost use Rattle.bitpack.specs.Needs.{Packs};
-ghost use Rattle.saved.specs.Answers.{saved_outcome};
-ghost use Rattle.saved.specs.Calls.{save_outcome, save_bytes};
+ghost use Rattle.saved.specs.Promises.{Saving};
 
-use bitpack::bits::{append, low_byte, wide};
+use bitpack::bits::{append, low_byte};
 use machine::Record;
 use saved::fields::fields;
 use saved::layout::{BYTES, WIDTHS};
-use saved::{Saved, is_possible};
+use saved::{SaveError, is_possible};
 
 // Saves a record in 94 bytes. A refusal changes nothing.
-pub fn save_by_bytes(r: Record, bytes: &mut [u8]) -> Saved
-    ensures { (saved_outcome result ≡ save_outcome r bytes.old) × (bytes.new ≡ save_bytes r bytes.old) }
+pub fn save_by_bytes(r: Record, bytes: &mut [u8]) -> Result<(), SaveError>
+    ensures { Saving r bytes.old result bytes.new }
 {
     if bytes.len() != BYTES {
-        return Saved::WrongLength;
+        return Err(SaveError::WrongLength);
     }
     let widths = WIDTHS;
     let f = fields(r);
     if !all_fit_ending_early(&widths, &f) {
-        return Saved::Unsound;
+        return Err(SaveError::Unsound);
     }
     if !is_possible(r) {
-        return Saved::Unsound;
+        return Err(SaveError::Unsound);
     }
     pack_bytes(&widths, &f, bytes);
-    Saved::Done
+    Ok(())
 }
 
 // Whether a value fits a width.
 fn fits_width(w: u64, v: u64) -> bool
     ensures { result ≡ ltb v (2 ^ w) }
 {
-    if w < 64 { (v >> w) == 0 } else { true }
+    w >= 64 || (v >> w) == 0
 }
 
 // Whether there are as many values as widths and each fits its width.
@@ -45,17 +45,15 @@ fn all_fit_ending_early(widths: &[u8], values: &[u64]) -> bool
     if widths.len() != values.len() {
         return false;
     }
-    let mut i: usize = 0;
-    while i < widths.len() {
-        if !fits_width(wide(widths[i]), values[i]) {
+    for (i, width) in widths.iter().enumerate() {
+        if !fits_width(u64::from(*width), values[i]) {
             return false;
         }
-        i += 1;
     }
     true
 }
 
-// Packs values into bytes, which they fill. Above the bits that are held stand some that came out already.
+// Packs values into bytes, which they fill. A turn takes a byte out or a value in, so no loop over one of them is plainer. Above the bits that are held stand some that came out already.
 fn pack_bytes(widths: &[u8], values: &[u64], out: &mut [u8])
     requires { Packs widths.now values.now (length out.old) }
     ensures { out.new ≡ bytes_of (length out.old) (packed widths.now values.now) }
@@ -70,7 +68,7 @@ fn pack_bytes(widths: &[u8], values: &[u64], out: &mut [u8])
             out[n] = low_byte(acc >> have);
             n += 1;
         } else {
-            let w = wide(widths[i]);
+            let w = u64::from(widths[i]);
             acc = append(acc, w, values[i]);
             have += w;
             i += 1;

@@ -195,6 +195,11 @@ module _ {ws vs out₀ out : List ℕ} {i k acc have : ℕ} (p : Packs ws vs (le
         let a = above in
         rw (add-one i) (record { went_in = there; few = few; meet = omega arith; holds = last_held last within; done = done })
 
+    -- What putting word j asks, of as many places as there were.
+    pub word-asked : (j last : ℕ) → last + 32 * suc j ≡ have + w + 32 * k → k ≤ j → (size : ℕ) → size ≡ length out
+        → Completes ws vs i acc last × (32 * suc j + last + total (drop (suc i) ws) ≡ total ws) × (4 * j + 4 ≤ size)
+    word-asked j last e next size same = (completes j last e next, word-ends j last e next, rw (same ∙ room) (word_room j last e))
+
     -- One word came out.
     pub one_word : (last : ℕ) (out' : List ℕ) → last + 32 ≡ have + w → last < 32 → out' ≡ put out (4 * k) (bytes_of 4 (word_of ws vs k))
         → Packing ws vs out₀ out' (i + 1) (k + 1) v last

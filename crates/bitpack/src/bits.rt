@@ -1,12 +1,6 @@
 // Shifts and masks of 64 bits.
+// Stays (4): the contract says which bits stay, and `as` alone asks that none is lost.
 ghost use Rattle.std.specs.Prelude.{◌≡◌, ◌+◌, ◌*◌, ◌%◌, ◌^◌, ◌<◌};
-
-// A byte as a number of 64 bits.
-pub fn wide(x: u8) -> u64
-    ensures { result ≡ x }
-{
-    x as u64
-}
 
 // The k low bits.
 pub fn low(x: u64, k: u64) -> u64

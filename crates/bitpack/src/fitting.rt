@@ -1,8 +1,7 @@
 // Values that fit their widths.
+// Stays (2, 6): many values are tested at once, with no end at the first (docs/BENCHMARKS.md, faster saving); bench_saved has the test that ends.
 ghost use Rattle.std.specs.Prelude.{◌≡◌, ◌/◌, ◌^◌};
 ghost use Rattle.bitpack.specs.Packed.{fit};
-
-use crate::bits::wide;
 
 // Whether there are as many values as widths and each fits its width. All are looked at before it answers, so that many can be tested at once.
 pub fn all_fit(widths: &[u8], values: &[u64]) -> bool
@@ -12,10 +11,8 @@ pub fn all_fit(widths: &[u8], values: &[u64]) -> bool
         return false;
     }
     let mut over: u64 = 0;
-    let mut i: usize = 0;
-    while i < widths.len() {
-        over = over | bits_above(wide(widths[i]), values[i]);
-        i += 1;
+    for (i, width) in widths.iter().enumerate() {
+        over = over | bits_above(u64::from(*width), values[i]);
     }
     over == 0
 }

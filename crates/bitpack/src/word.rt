@@ -1,4 +1,5 @@
 // Words of 32 bits: four bytes, most significant first.
+// Stays (2, 4, 6): the law speaks of bits appended byte by byte (`word_read`); from_be_bytes takes an array, so bytes would be copied first.
 ghost use Rattle.std.specs.Prelude.{◌≡◌, suc, ◌+◌, ◌-◌, ◌*◌, ◌≤◌, length, drop};
 ghost use Rattle.text.specs.Place.{put};
 ghost use Rattle.bitpack.specs.Bits.{bits};
@@ -6,14 +7,14 @@ ghost use Rattle.bitpack.specs.Packed.{total, packed, bytes_of, number_of};
 ghost use Rattle.bitpack.specs.Words.{word_of};
 ghost use Rattle.bitpack.specs.Needs.{Completes};
 
-use crate::bits::{append, low_byte, wide};
+use crate::bits::{append, low_byte};
 
 // The word that value i completes: its 32 bits of the packed number, of which value i without its last bits has the lowest, and what is held the others.
 fn make_word(widths: &[u8], values: &[u64], i: usize, held: u64, last: u64) -> u32
     requires { Completes widths.now values.now i held last }
     ensures { result ≡ bits (packed widths.now values.now) (last + total (drop (suc i) widths.now)) 32 }
 {
-    (append(held, wide(widths[i]) - last, values[i] >> last) % 0x1_0000_0000) as u32
+    (append(held, u64::from(widths[i]) - last, values[i] >> last) % 0x1_0000_0000) as u32
 }
 
 // Puts word k of the packed values, which value i completes, at its place.
@@ -29,7 +30,11 @@ pub fn put_word(
     requires { Completes widths.now values.now i held last × (32 * suc k + last + total (drop (suc i) widths.now) ≡ total widths.now) × (4 * k + 4 ≤ length out.old) }
     ensures { out.new ≡ put out.old (4 * k) (bytes_of 4 (word_of widths.now values.now k)) }
 {
-    put_four(out, 4 * k, make_word(widths, values, i, held, last) as u64);
+    put_four(
+        out,
+        4 * k,
+        u64::from(make_word(widths, values, i, held, last)),
+    );
 }
 
 // Puts the four low bytes of a number.
@@ -48,7 +53,7 @@ pub fn word_at(bytes: &[u8], i: usize) -> u64
     requires { i + 4 ≤ length bytes.now }
     ensures { result ≡ bits (number_of bytes.now) (8 * (length bytes.now - (i + 4))) 32 }
 {
-    let two = append(wide(bytes[i]), 8, wide(bytes[i + 1]));
-    let three = append(two, 8, wide(bytes[i + 2]));
-    append(three, 8, wide(bytes[i + 3]))
+    let two = append(u64::from(bytes[i]), 8, u64::from(bytes[i + 1]));
+    let three = append(two, 8, u64::from(bytes[i + 2]));
+    append(three, 8, u64::from(bytes[i + 3]))
 }

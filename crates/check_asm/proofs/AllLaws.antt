@@ -1,29 +1,41 @@
--- Words that are all the same one. Assumes nothing.
-use Prim.Native.Nat.{ℕ, ◌+◌, ◌≤◌, ◌<◌}
-use mathlib.Core.Path.{◌≡◌, refl, sym, ◌∙◌}
-use mathlib.Core.Bool.{true, false}
-use mathlib.Core.List.{List}
-use lib.ListN.{length, get_or, replicate, length-replicate, get_or-replicate}
+-- Words that are the same ones, or all the same one. Assumes nothing.
+use Prim.Native.Nat.{ℕ, suc, ◌<◌}
+use mathlib.Core.Path.{◌≡◌, refl, sym, ◌∙◌, ap}
+use mathlib.Core.Bool.{Bool, true, false, false≢true, ◌&&◌}
+use mathlib.Core.List.{List, [], ◌∷◌}
+use native.Mathlib.Omega.{arith}
+use lib.Dec.{eqb}
+use lib.Pointwise.{pointwise}
+use lib.ListN.{length, get_or, replicate, get_or-replicate}
+use borrow.Author.Tests.{eq-eqb}
+use Rattle.std.specs.Prelude.{◌↔◌, IsTrue, EachIndex, slice_index}
 use Rattle.text.specs.Same.{same}
-use Rattle.text.proofs.SameLaws.{Alike, one_alike, one_other, all_alike}
+use Rattle.text.proofs.SameLaws.{same_equal}
 
--- The first i of the words s are x.
-abbrev pub AreFirst : List ℕ → ℕ → ℕ → Type 0
-AreFirst s x i = Alike s (replicate (length s) x) i
+-- Two answers to one question.
+one_answer : (r b : Bool) (P : Type 0) → IsTrue r ↔ P → (b ≡ true → P) → (P → b ≡ true) → r ≡ b
+one_answer true b P h back on = sym (on (h.0 refl))
+one_answer false true P h back on = absurd (false≢true (h.1 (back refl)))
+one_answer false false P h back on = refl
 
-module _ (s : List ℕ) (x : ℕ) where
-  size : length (replicate (length s) x) ≡ length s
-  size = length-replicate (length s) x
+-- Lists that `==` compares.
+pub same_is : (s t : List ℕ) → pointwise eqb s t ≡ same s t
+unfolding same
+same_is [] [] = refl
+same_is [] (c ∷ t) = refl
+same_is (b ∷ s) [] = refl
+same_is (b ∷ s) (c ∷ t) = ap (λ (r : Bool). eqb b c && r) (same_is s t)
 
-  pub none_passed : AreFirst s x 0
-  none_passed = record { size = sym size; is = refl }
+each_same : (s : List ℕ) (x : ℕ) → ((k : ℕ) → k < length s → get_or s k 0 ≡ x) → same s (replicate (length s) x) ≡ true
+unfolding same
+each_same [] x h = refl
+each_same (y ∷ s) x h =
+    let first : y ≡ x = h 0 (omega arith) in
+    rw (eq-eqb y x first) (each_same s x (λ k few. h (suc k) (omega arith)))
 
-  module _ (i : ℕ) (a : AreFirst s x i) where
-    pub one_passed : i < length s → get_or s i 0 ≡ x → AreFirst s x (i + 1)
-    one_passed h e = one_alike a (e ∙ sym (get_or-replicate (length s) i x 0 h)) (rw size h)
-
-    pub one_differs : i < length s → (get_or s i 0 ≡ x → ⊥) → false ≡ same s (replicate (length s) x)
-    one_differs h n = one_other a (λ e. n (e ∙ get_or-replicate (length s) i x 0 h)) (rw size h)
-
-    pub all_passed : length s ≤ i → true ≡ same s (replicate (length s) x)
-    all_passed h = all_alike a (rw size h)
+-- Each word is x where they are the same as so many x.
+pub all_same : (s : List ℕ) (x : ℕ) (r : Bool) → IsTrue r ↔ EachIndex s (λ k. slice_index s k ≡ x) → r ≡ same s (replicate (length s) x)
+all_same s x r h =
+    one_answer r (same s (replicate (length s) x)) (EachIndex s (λ k. slice_index s k ≡ x)) h
+    (λ e k few. ap (λ (t : List ℕ). get_or t k 0) (same_equal s (replicate (length s) x) e) ∙ get_or-replicate (length s) k x 0 few)
+    (each_same s x)

@@ -9,13 +9,14 @@ use lib.Seq.{length-take-le}
 use borrow.Author.Tests.{eq-eqb, ne_eqb}
 use Rattle.text.specs.declared.Outcome.{Outcome}
 use Rattle.text.specs.Same.{same}
-use Rattle.assembler.specs.declared.Assembled.{Assembled}
+use Rattle.std.specs.Prelude.{Result, Ok, Err}
+use Rattle.assembler.specs.declared.AssembleError.{AssembleError}
 use Rattle.assembler.specs.Answers.{assembled_outcome}
 use Rattle.assembler.specs.Questions.{assemble_outcome}
 use Rattle.assembler.specs.Memories.{assembled_image, assembled_data}
 use Rattle.assembler.specs.Promises.{Assembling}
-use Rattle.lister.specs.declared.Listed.{Listed}
-use Rattle.lister.specs.declared.Listed.TheVariants.{Bytes, WrongLength, UnknownOpcode, NoRoom}
+use Rattle.lister.specs.declared.ListError.{ListError}
+use Rattle.lister.specs.declared.ListError.TheVariants.{WrongLength, UnknownOpcode, NoRoom}
 use Rattle.lister.specs.Calls.{listed_outcome, TextListed}
 use Rattle.lister.proofs.CallLaws.{count-within}
 use Rattle.check_asm.specs.Trials.{are_all, is_image_of, ListedInto}
@@ -23,7 +24,7 @@ use Rattle.check_asm.specs.Trials.{are_all, is_image_of, ListedInto}
 -- ---- a text, assembled again
 
 -- A text was assembled into memories of the right lengths, and t was told.
-module _ (source image : List ℕ) {lent-image lent-memory again memory : List ℕ} {r : Assembled} {t : Outcome} (i : length lent-image ≡ 4096) (m : length lent-memory ≡ 4096)
+module _ (source image : List ℕ) {lent-image lent-memory again memory : List ℕ} {r : Result (Unit {0}) AssembleError} {t : Outcome} (i : length lent-image ≡ 4096) (m : length lent-memory ≡ 4096)
     (assembled : Assembling source lent-image lent-memory r again memory) (says : t ≡ assembled_outcome r) where
   told : t ≡ assemble_outcome source 4096 4096
   told = rw (i, m) at (says ∙ assembled.answer)
@@ -50,13 +51,13 @@ module _ (source image : List ℕ) {lent-image lent-memory again memory : List �
 
 -- ---- a listing
 
-count_fits : {words out after : List ℕ} (r : Listed) → TextListed words out r after → (listed_outcome r).count ≤ length out
-count_fits {words} {out} (Bytes n) listed = count-within words (length out) (listed_outcome (Bytes n)) listed.answer refl
-count_fits WrongLength listed = omega arith
-count_fits (UnknownOpcode word) listed = omega arith
-count_fits NoRoom listed = omega arith
+count_fits : {words out after : List ℕ} (r : Result ℕ ListError) → TextListed words out r after → (listed_outcome r).count ≤ length out
+count_fits {words} {out} (Ok n) listed = count-within words (length out) (listed_outcome (Ok n)) listed.answer refl
+count_fits (Err WrongLength) listed = omega arith
+count_fits (Err (UnknownOpcode word)) listed = omega arith
+count_fits (Err NoRoom) listed = omega arith
 
-pub listed_into : {words out after : List ℕ} {r : Listed} {n : ℕ} → TextListed words out r after → length after ≡ length out → n ≡ (listed_outcome r).count
+pub listed_into : {words out after : List ℕ} {r : Result ℕ ListError} {n : ℕ} → TextListed words out r after → length after ≡ length out → n ≡ (listed_outcome r).count
     → ListedInto words out n after
 listed_into {words} {out} {after} {r} {n} listed kept is =
     let fits : n ≤ length after = omega (arith, count_fits r listed) in

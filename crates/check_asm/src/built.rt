@@ -1,4 +1,5 @@
 // Large texts: a front, a line that is repeated, and an end.
+// Stays (1, 2, 4, 6): no heap: a text is built in an array of this program's room, of which a length says how much is used.
 ghost use Rattle.std.specs.Prelude.{◌≤◌, [], ◌∷◌, ◌++◌, length, replicate};
 ghost use Rattle.console.specs.Line.{PiecesPut};
 
@@ -98,10 +99,8 @@ fn repeat(text: &mut [u8], at: usize, line: &[u8], times: usize) -> usize
     ensures { PiecesPut (replicate times line.now) text.old at text.new result }
 {
     let mut next = at;
-    let mut left = times;
-    while 0 < left {
+    for _ in 0..times {
         next = put_if_room(text, next, line);
-        left -= 1;
     }
     next
 }

@@ -1,8 +1,10 @@
 // L1 to L3: words listed into texts of up to 80 bytes.
+// Stays (1, 4): what is printed goes to standard output piece by piece, as the expected output has it.
 ghost use Rattle.std.specs.Prelude.{◌≤◌};
 
 use crate::print::{print_count, print_refused_listing, print_text};
-use lister::{Listed, list};
+use lister::{ListError, list};
+use text::outcomes::Refusal;
 
 // `add $v0, $a0, $a1, $a2, -1, -2048`, and a halt with bits above 47.
 const ADD: u64 = 0x0034_56FF_F800;
@@ -52,11 +54,9 @@ fn try_list(rt: HostRuntime, name: &[u8], words: &[u64], room: usize)
     print_text(rt, &text);
 }
 
-fn print_answer(rt: HostRuntime, name: &[u8], answer: Listed) {
+fn print_answer(rt: HostRuntime, name: &[u8], answer: Result<usize, ListError>) {
     match answer {
-        Listed::Bytes(count) => print_count(rt, name, count),
-        Listed::WrongLength => print_refused_listing(rt, name, 1, 0),
-        Listed::UnknownOpcode(word) => print_refused_listing(rt, name, 16, word),
-        Listed::NoRoom => print_refused_listing(rt, name, 15, 0),
+        Ok(count) => print_count(rt, name, count),
+        Err(error) => print_refused_listing(rt, name, error.outcome()),
     }
 }

@@ -1,4 +1,5 @@
 // An image listed, and the listing assembled again.
+// Stays (1, 2, 6): a refused listing has no bytes, by `Trials.ListedInto`, so it gives 0; no heap: the listing stands in an array, of which a length says how much is used.
 ghost use Rattle.std.specs.Prelude.{◌≡◌};
 ghost use Rattle.check_asm.specs.Trials.{is_image_of, ListedInto};
 
@@ -6,6 +7,7 @@ use crate::memories::{are_all, are_same};
 use crate::print::print_returned;
 use assembler::assemble;
 use lister::{list, used_words};
+use text::outcomes::counted;
 
 // Room for a listing of 4,096 words: a line of one has at most 46 bytes.
 const ROOM: usize = 188_416;
@@ -22,7 +24,7 @@ pub fn print_listed(rt: HostRuntime, image: &[u64]) {
 fn list_words(words: &[u64], text: &mut [u8]) -> usize
     ensures { ListedInto words.now text.old result text.new }
 {
-    list(words, text).outcome().count
+    counted(list(words, text)).count
 }
 
 // Whether a text is assembled into this image and a data memory of zeros.
@@ -31,12 +33,7 @@ fn is_image_of(text: &[u8], image: &[u64]) -> bool
 {
     let mut again = [1u64; 4096];
     let mut memory = [1u32; 4096];
-    let answer = assemble(text, &mut again, &mut memory).outcome();
-    if answer.number != 0 {
-        return false;
-    }
-    if are_all(&memory, 0) {
-        return are_same(&again, image);
-    }
-    false
+    assemble(text, &mut again, &mut memory).is_ok()
+        && are_all(&memory, 0)
+        && are_same(&again, image)
 }

@@ -29,10 +29,8 @@ use console::argument_count;
 
 fn main(rt: HostRuntime) {
     let count = argument_count(rt);
-    let mut i = 1;
-    while i < count {
+    for i in 1..count {
         try_argument(rt, i);
-        i += 1;
     }
     try_built(rt);
     try_lengths(rt);

@@ -1,51 +1,30 @@
 // Words of a memory.
-ghost use Rattle.std.specs.Prelude.{◌≡◌, ◌≤◌, ◌<◌, length, replicate};
+// Stays (2, 3, 4): the definition `same` compares numbers, so the two types have a function each; a row ends at a place, which `take_while` would count again.
+ghost use Rattle.std.specs.Prelude.{◌≡◌, ◌↔◌, ◌≤◌, ◌<◌, length, replicate, slice_index, EachIndex, IsTrue};
 ghost use Rattle.text.specs.Same.{same};
 ghost use Rattle.check_asm.specs.Rows.{row_end};
 
 // Whether every word is this one.
 pub fn are_all(words: &[u32], word: u32) -> bool
-    ensures { result ≡ same words.now (replicate (length words.now) word) }
+    ensures each { IsTrue result ↔ EachIndex words.now (λ k. slice_index words.now k ≡ word) }
+    ensures is { result ≡ same words.now (replicate (length words.now) word) }
 {
-    let mut i = 0;
-    while i < words.len() {
-        if words[i] != word {
-            return false;
-        }
-        i += 1;
-    }
-    true
+    words.iter().all(|x| *x == word)
 }
 
-// Whether every word of an image is this one.
+// Whether every word of an image is this one. (The definition compares numbers, so the two types have a function each.)
 pub fn are_all_long(words: &[u64], word: u64) -> bool
-    ensures { result ≡ same words.now (replicate (length words.now) word) }
+    ensures each { IsTrue result ↔ EachIndex words.now (λ k. slice_index words.now k ≡ word) }
+    ensures is { result ≡ same words.now (replicate (length words.now) word) }
 {
-    let mut i = 0;
-    while i < words.len() {
-        if words[i] != word {
-            return false;
-        }
-        i += 1;
-    }
-    true
+    words.iter().all(|x| *x == word)
 }
 
 // Whether two images have the same words.
 pub fn are_same(a: &[u64], b: &[u64]) -> bool
     ensures { result ≡ same a.now b.now }
 {
-    if a.len() != b.len() {
-        return false;
-    }
-    let mut i = 0;
-    while i < a.len() {
-        if a[i] != b[i] {
-            return false;
-        }
-        i += 1;
-    }
-    true
+    a == b
 }
 
 // The place after the words that follow the one at i and equal it.
@@ -54,12 +33,10 @@ pub fn row_end(words: &[u64], i: usize) -> usize
     ensures { (result ≡ row_end words.now i) × (i < result) × (result ≤ length words.now) }
 {
     let word = words[i];
-    let mut end = i + 1;
-    while end < words.len() {
+    for end in i + 1..words.len() {
         if words[end] != word {
             return end;
         }
-        end += 1;
     }
-    end
+    words.len()
 }

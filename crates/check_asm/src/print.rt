@@ -1,10 +1,11 @@
 // What is printed.
+// Stays (1, 2, 3, 4, 6): names of texts are bytes, so a line is printed piece by piece; the number is the documents'; the loop goes from row to row.
 ghost use Rattle.std.specs.Prelude.{◌≤◌};
 
 use crate::memories::row_end;
 use lister::used_words;
 use text::Outcome;
-use text::digits::{hex_pairs, put_hex};
+use text::digits::PairTable;
 
 // The largest word of 48 bits.
 const MOST_WORD: u64 = 0xFFFF_FFFF_FFFF;
@@ -41,7 +42,7 @@ pub fn print_text(rt: HostRuntime, text: &[u8; 80]) {
 
 // Prints a refusal, and whether the lent words were kept.
 pub fn print_refused(rt: HostRuntime, name: &[u8], outcome: Outcome, is_kept: bool) {
-    print_number(rt, name, outcome.number, outcome.place);
+    print_number(rt, name, outcome);
     if !is_kept {
         print(rt, b" changed");
     }
@@ -49,17 +50,18 @@ pub fn print_refused(rt: HostRuntime, name: &[u8], outcome: Outcome, is_kept: bo
 }
 
 // Prints a refusal of the lister.
-pub fn print_refused_listing(rt: HostRuntime, name: &[u8], number: u32, place: usize) {
-    print_number(rt, name, number, place);
+pub fn print_refused_listing(rt: HostRuntime, name: &[u8], outcome: Outcome) {
+    print_number(rt, name, outcome);
     print(rt, b"\n");
 }
 
-fn print_number(rt: HostRuntime, name: &[u8], number: u32, place: usize) {
+// Prints a refusal's number and place after a name.
+fn print_number(rt: HostRuntime, name: &[u8], outcome: Outcome) {
     print(rt, name);
     print(rt, b" N ");
-    print_decimal(rt, number as u64);
+    print_decimal(rt, u64::from(outcome.number));
     print(rt, b" ");
-    print_decimal(rt, place as u64);
+    print_decimal(rt, outcome.place as u64);
 }
 
 // Prints whether an image came back from its listing.
@@ -77,6 +79,7 @@ pub fn print_image(rt: HostRuntime, image: &[u64]) {
     print_words(rt, &image[..n]);
 }
 
+// Prints words, each row of equal ones on a line. (The loop goes from row to row.)
 fn print_words(rt: HostRuntime, words: &[u64]) {
     let mut i = 0;
     while i < words.len() {
@@ -107,10 +110,8 @@ fn print_word(rt: HostRuntime, word: u64) {
 
 // Prints the words of a data memory that are not zero.
 pub fn print_data(rt: HostRuntime, memory: &[u32]) {
-    let mut i = 0;
-    while i < memory.len() {
-        print_data_word(rt, i, memory[i]);
-        i += 1;
+    for (address, word) in memory.iter().enumerate() {
+        print_data_word(rt, address, *word);
     }
 }
 
@@ -129,9 +130,8 @@ fn print_data_word(rt: HostRuntime, address: usize, word: u32) {
 fn print_hex(rt: HostRuntime, v: u64, k: usize)
     requires { k ≤ 16 }
 {
-    let pairs = hex_pairs();
     let mut digits = [0u8; 16];
-    put_hex(&mut digits, 0, k, v, &pairs);
+    PairTable::new().put_hex(&mut digits, 0, k, v);
     print(rt, &digits[..k]);
 }
 

@@ -1,16 +1,15 @@
 // Texts in files.
+// Stays (2, 6): no heap: a file stands in an array of this program's room, of which a length says how much is used.
 use crate::print::print_missing;
 use crate::trial::try_text;
-use console::{NAME, argument, open_read, read_full};
+use console::{Name, open_read, read_full};
 
 // The longest source, and one byte more: what a longer file has after them changes nothing.
 const FRONT: usize = 262_145;
 
 // Tries the file that an argument names.
 pub fn try_argument(rt: HostRuntime, i: usize) {
-    let mut name = [0u8; NAME];
-    let n = argument(rt, i, &mut name);
-    try_file(rt, &name[..n]);
+    try_file(rt, Name::of_argument(rt, i).bytes());
 }
 
 // Tries a file.

@@ -1,4 +1,5 @@
 // One text assembled, and what is printed of it.
+// Stays (1): the line N has the refusal's number.
 ghost use Rattle.std.specs.Prelude.{◌≡◌};
 ghost use Rattle.check_asm.specs.Trials.{is_kept};
 
@@ -6,6 +7,7 @@ use crate::listing::print_listed;
 use crate::memories::{are_all, are_all_long};
 use crate::print::{print_accepted, print_data, print_image, print_refused};
 use assembler::assemble;
+use text::outcomes::{Refusal, done};
 
 // What each word of the image and of the data memory holds before.
 const IMAGE_PATTERN: u64 = 0xA5A5_A5A5_A5A5_A5A5;
@@ -16,9 +18,8 @@ const DATA_PATTERN: u32 = 0xA5A5_A5A5;
 pub fn try_text(rt: HostRuntime, name: &[u8], text: &[u8]) {
     let mut image = [IMAGE_PATTERN; 4096];
     let mut memory = [DATA_PATTERN; 4096];
-    let answer = assemble(text, &mut image, &mut memory).outcome();
-    if answer.number != 0 {
-        print_refused(rt, name, answer, is_kept(&image, &memory));
+    if let Err(error) = assemble(text, &mut image, &mut memory) {
+        print_refused(rt, name, error.outcome(), is_kept(&image, &memory));
         return;
     }
     print_accepted(rt, name);
@@ -33,14 +34,14 @@ pub fn try_lengths(rt: HostRuntime) {
     let mut memory = [DATA_PATTERN; 4096];
     let mut short_image = [IMAGE_PATTERN; 4095];
     let mut long_memory = [DATA_PATTERN; 4097];
-    let first = assemble(b"", &mut short_image, &mut memory).outcome();
+    let first = done(assemble(b"", &mut short_image, &mut memory));
     print_refused(
         rt,
         b"lengths_short_image",
         first,
         is_kept(&short_image, &memory),
     );
-    let second = assemble(b"", &mut image, &mut long_memory).outcome();
+    let second = done(assemble(b"", &mut image, &mut long_memory));
     print_refused(
         rt,
         b"lengths_long_memory",
@@ -53,8 +54,5 @@ pub fn try_lengths(rt: HostRuntime) {
 fn is_kept(image: &[u64], memory: &[u32]) -> bool
     ensures { result ≡ is_kept image.now memory.now }
 {
-    if are_all_long(image, IMAGE_PATTERN) {
-        return are_all(memory, DATA_PATTERN);
-    }
-    false
+    are_all_long(image, IMAGE_PATTERN) && are_all(memory, DATA_PATTERN)
 }

@@ -1,8 +1,7 @@
 // Files compared.
-ghost use Rattle.console.specs.Counts.{IsPrefixLen};
-
+// Stays (6): no heap: the files stand in arrays, of which lengths say how much is used.
 use console::say;
-use memories::{Count, read_front_at};
+use memories::read_front_at;
 use text::same::are_same;
 
 // Room for the longest file that is compared.
@@ -12,8 +11,9 @@ const ROOM: usize = 262_144;
 pub fn compare_files(rt: HostRuntime, i: usize, j: usize) {
     let mut first = [0u8; ROOM];
     let mut second = [0u8; ROOM];
-    let n = length_of(rt, i, &mut first);
-    let m = length_of(rt, j, &mut second);
+    // A file that can't be read, as is said, counts as empty.
+    let n = read_front_at(rt, i, &mut first).unwrap_or(0);
+    let m = read_front_at(rt, j, &mut second).unwrap_or(0);
     if n == ROOM {
         say(rt, b"too long\n");
         return;
@@ -23,14 +23,4 @@ pub fn compare_files(rt: HostRuntime, i: usize, j: usize) {
     } else {
         say(rt, b"different\n");
     }
-}
-
-// Reads a file into the front of a buffer and returns its length; 0 of one that can't be read.
-fn length_of(rt: HostRuntime, i: usize, buffer: &mut [u8]) -> usize
-    ensures { IsPrefixLen result buffer.new }
-{
-    let Count::Of(n) = read_front_at(rt, i, buffer) else {
-        return 0;
-    };
-    n
 }

@@ -9,6 +9,7 @@
 //     equal A B                    says whether two files hold the same bytes;
 //     numbers                      the lines of the refusals 0 to 21 at place 7, and of 12 and 16 at place 0.
 // Before each step it prints the step's words. Where data/ has files that are expected, its README.md says where they come from.
+// Stays (3): the loop goes from step to step, each of as many arguments as its word says.
 #![tactic(auto)]
 
 mod compare;
@@ -17,11 +18,11 @@ mod steps;
 ghost use Rattle.std.specs.Prelude.{◌+◌, ◌^◌, ◌<◌};
 
 use crate::compare::compare_files;
-use crate::steps::{key_of, say_step, words_of};
+use crate::steps::{Step, key_of, say_step, step_of, words_of};
 use commands::{assemble_file, draw_frame, list_file, show_record};
 use console::{NAME, argument, argument_count, open_missing_standard_streams, say_refusal};
 use hex_commands::{conversion_at, convert};
-use memories::{Count, read_budget};
+use memories::read_budget;
 use run_commands::{resume, simulate};
 
 // More arguments than the steps have.
@@ -33,42 +34,43 @@ fn main(rt: HostRuntime) {
     if MOST < count {
         return;
     }
+    // The loop goes from step to step, each of as many arguments as its word says.
     let mut left = count;
     let mut i = 1;
     while 1 < left {
-        let key = key_at(rt, i);
-        let words = words_of(key);
+        let step = step_at(rt, i);
+        let words = words_of(step);
         if left <= words {
             return;
         }
         say_step(rt, i, words);
-        run_step(rt, key, i);
+        run_step(rt, step, i);
         left -= words;
         i += words;
     }
 }
 
-// The key of the step at an argument.
-fn key_at(rt: HostRuntime, i: usize) -> u8 {
+// The step whose word an argument is.
+fn step_at(rt: HostRuntime, i: usize) -> Step {
     let mut word = [0u8; NAME];
-    argument(rt, i, &mut word);
-    key_of(&word)
+    let _ = argument(rt, i, &mut word);
+    step_of(key_of(&word))
 }
 
-// Runs the step at an argument, by its key.
-fn run_step(rt: HostRuntime, key: u8, i: usize)
+// Runs the step at an argument.
+fn run_step(rt: HostRuntime, step: Step, i: usize)
     requires { i + 16 < 2 ^ 64 }
 {
-    match key {
-        b'a' => assemble_file(rt, i + 1),
-        b'l' => list_file(rt, i + 1),
-        b'm' => simulate_step(rt, i),
-        b'r' => resume(rt, i + 1),
-        b'o' => show_record(rt, i + 1),
-        b'p' => draw_frame(rt, i + 1),
-        b'h' => convert(rt, conversion_at(rt, i + 1), i + 3),
-        b'e' => compare_files(rt, i + 1, i + 2),
-        _ => say_refusals(rt),
+    match step {
+        Step::Assemble => assemble_file(rt, i + 1),
+        Step::List => list_file(rt, i + 1),
+        Step::Simulate => simulate_step(rt, i),
+        Step::Resume => resume(rt, i + 1),
+        Step::Show => show_record(rt, i + 1),
+        Step::Picture => draw_frame(rt, i + 1),
+        Step::Hex => convert(rt, conversion_at(rt, i + 1), i + 3),
+        Step::Equal => compare_files(rt, i + 1, i + 2),
+        Step::Numbers => say_refusals(rt),
     }
 }
 
@@ -76,17 +78,15 @@ fn run_step(rt: HostRuntime, key: u8, i: usize)
 fn simulate_step(rt: HostRuntime, i: usize)
     requires { i + 16 < 2 ^ 64 }
 {
-    if let Count::Of(budget) = read_budget(rt, i + 15) {
+    if let Some(budget) = read_budget(rt, i + 15) {
         simulate(rt, i + 1, budget as u64);
     }
 }
 
 // Says each refusal.
 fn say_refusals(rt: HostRuntime) {
-    let mut number = 0;
-    while number < 22 {
+    for number in 0..22 {
         say_refusal(rt, b"file", number, 7);
-        number += 1;
     }
     say_refusal(rt, b"file", 12, 0);
     say_refusal(rt, b"file", 16, 0);

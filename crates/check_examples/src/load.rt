@@ -1,4 +1,5 @@
-// The memories and the irq2 list of a folder. A file that can't be read, as is said, counts as empty.
+// The memories and the irq2 list of a folder. A file that can't be read, as is said, counts as empty. (The four differ in the reader, which their contracts name.)
+// Stays (1, 2, 6, 7): the four differ in the reader, which their contracts name; the line N has the first refusal's number, so outcomes are handed on; no heap: a path stands in an array.
 ghost use Rattle.files.specs.Sizes.{is_image_length, is_data_length, is_part_length, image_digits, word_digits};
 ghost use Rattle.files.specs.Loaded.{AreCycles};
 ghost use Rattle.files.specs.Loaded.{FileLoaded, CyclesLoaded};
@@ -7,8 +8,8 @@ ghost use Rattle.check_examples.specs.Memories.{MemoriesLoaded};
 use crate::open::file_path;
 use console::NAME;
 use files::{read_data, read_disk, read_image, read_irq2};
-use memories::FileLoad;
 use text::Outcome;
+use text::outcomes::{counted, done};
 
 // Reads the instruction file, the file of data and the file of the disk, up to the first that is refused.
 pub fn load_memories(
@@ -37,10 +38,10 @@ fn load_image(rt: HostRuntime, folder: &[u8], image: &mut [u64; 4096]) -> Outcom
 {
     let mut path = [0u8; NAME];
     let n = file_path(rt, folder, b"imemin.txt", &mut path);
-    if let FileLoad::Read(outcome) = memories::load_image(rt, &path[..n], image) {
+    if let Some(outcome) = memories::load_image(rt, &path[..n], image) {
         return outcome;
     }
-    read_image(b"", image).outcome()
+    done(read_image(b"", image))
 }
 
 // Reads the file of data.
@@ -49,10 +50,10 @@ fn load_data(rt: HostRuntime, folder: &[u8], memory: &mut [u32; 4096]) -> Outcom
 {
     let mut path = [0u8; NAME];
     let n = file_path(rt, folder, b"dmemin.txt", &mut path);
-    if let FileLoad::Read(outcome) = memories::load_data(rt, &path[..n], memory) {
+    if let Some(outcome) = memories::load_data(rt, &path[..n], memory) {
         return outcome;
     }
-    read_data(b"", memory).outcome()
+    done(read_data(b"", memory))
 }
 
 // Reads the file of the whole disk.
@@ -61,10 +62,10 @@ fn load_disk(rt: HostRuntime, folder: &[u8], disk: &mut [u32; 16384]) -> Outcome
 {
     let mut path = [0u8; NAME];
     let n = file_path(rt, folder, b"diskin.txt", &mut path);
-    if let FileLoad::Read(outcome) = memories::load_disk(rt, &path[..n], disk) {
+    if let Some(outcome) = memories::load_disk(rt, &path[..n], disk) {
         return outcome;
     }
-    read_disk(b"", disk).outcome()
+    done(read_disk(b"", disk))
 }
 
 // Reads the irq2 file, of up to 4,096 cycles. They stand at the front then, and rise.
@@ -73,8 +74,8 @@ pub fn load_irq2(rt: HostRuntime, folder: &[u8], cycles: &mut [u64; 4096]) -> Ou
 {
     let mut path = [0u8; NAME];
     let n = file_path(rt, folder, b"irq2in.txt", &mut path);
-    if let FileLoad::Read(outcome) = memories::load_irq2(rt, &path[..n], cycles) {
+    if let Some(outcome) = memories::load_irq2(rt, &path[..n], cycles) {
         return outcome;
     }
-    read_irq2(b"", cycles).outcome()
+    counted(read_irq2(b"", cycles))
 }

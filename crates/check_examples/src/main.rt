@@ -1,29 +1,27 @@
 // Runs the folders that its arguments name, each from the fresh record with budget 100,000 cycles. Of each it prints the folder's name, the log and
 // the line E; where a file of the folder is refused, the line N in place of the log.
+// Stays (1, 4, 6): the line N has the refusal's number and place; the cycles' count is the outcome's.
 #![tactic(auto)]
 
 mod load;
 mod open;
 
 use crate::load::{load_irq2, load_memories};
-use console::{NAME, argument, argument_count};
+use console::{Name, argument_count};
 use long_run::{print_line_e, print_line_n, run_budget};
 
 fn main(rt: HostRuntime) {
     let count = argument_count(rt);
-    let mut i = 1;
-    while i < count {
+    for i in 1..count {
         run_argument(rt, i);
-        i += 1;
     }
 }
 
 // Runs the folder that an argument names.
 fn run_argument(rt: HostRuntime, i: usize) {
-    let mut name = [0u8; NAME];
-    let n = argument(rt, i, &mut name);
-    print_name(rt, &name[..n]);
-    run_folder(rt, &name[..n]);
+    let name = Name::of_argument(rt, i);
+    print_name(rt, name.bytes());
+    run_folder(rt, name.bytes());
 }
 
 // Prints the line that stands before a folder's log.

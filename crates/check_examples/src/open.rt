@@ -1,4 +1,5 @@
 // The files of a folder.
+// Stays (1, 2, 4): a path that has no room is the empty one, which names no file; a path need not be text, so its bytes are put into an array.
 ghost use Rattle.std.specs.Prelude.{◌≤◌, length};
 ghost use Rattle.console.specs.Counts.{IsPrefixLen};
 
@@ -17,7 +18,7 @@ pub fn file_path(rt: HostRuntime, folder: &[u8], file: &[u8], path: &mut [u8]) -
     n
 }
 
-// Puts the path of a file in a folder at the front and returns its length; 0 for a path that is too long.
+// Puts the path of a file in a folder at the front and returns its length; 0 for a path that is too long: the empty path, which names no file.
 fn put_path(folder: &[u8], file: &[u8], path: &mut [u8]) -> usize
     ensures { IsPrefixLen result path.new }
 {

@@ -1,18 +1,13 @@
 // F7, F8: irq2 files, read into three places, which each line shows.
-use crate::say::{end, say, show};
+// Stays (2): the two trials differ in the call and in what they show of its memory.
+use crate::say::{say, show};
 use files::read_irq2;
+use text::outcomes::counted;
 
 fn try_text(rt: HostRuntime, point: &[u8], text: &[u8]) {
     let mut cycles = [7u64; 3];
-    say(rt, point, read_irq2(text, &mut cycles).outcome());
-    show_cycles(rt, cycles);
-}
-
-fn show_cycles(rt: HostRuntime, cycles: [u64; 3]) {
-    show(rt, cycles[0]);
-    show(rt, cycles[1]);
-    show(rt, cycles[2]);
-    end(rt);
+    say(rt, point, counted(read_irq2(text, &mut cycles)));
+    show(rt, &cycles);
 }
 
 pub fn accepted(rt: HostRuntime) {

@@ -1,6 +1,8 @@
 // F11, F12, F13: lengths of lent memories, and each memory written and read back.
+// Stays (1, 2): each point has its own memory of a wrong length.
 use crate::say::{end, say, show};
 use files::{read_data, read_disk, read_frame, read_image, write_data, write_frame, write_image};
+use text::outcomes::{counted, done};
 
 pub fn lengths(rt: HostRuntime) {
     image(rt);
@@ -17,7 +19,7 @@ fn image(rt: HostRuntime) {
     say(
         rt,
         b"F12 image written",
-        write_image(&image, &mut text).outcome(),
+        counted(write_image(&image, &mut text)),
     );
     end(rt);
     read_back(rt, &text);
@@ -31,56 +33,46 @@ fn read_back(rt: HostRuntime, text: &[u8]) {
     say(
         rt,
         b"F11 image back",
-        read_image(&text[0..53248], &mut image).outcome(),
+        done(read_image(&text[0..53248], &mut image)),
     );
-    show_image(rt, image);
-}
-
-fn show_image(rt: HostRuntime, image: [u64; 4096]) {
-    show(rt, image[0]);
-    show(rt, image[4095]);
-    end(rt);
+    show(rt, &[image[0], image[4095]]);
 }
 
 fn short_image(rt: HostRuntime) {
     let mut image = [0u64; 4095];
-    say(rt, b"F12 image", read_image(b"", &mut image).outcome());
+    say(rt, b"F12 image", done(read_image(b"", &mut image)));
     end(rt);
 }
 
 fn words(rt: HostRuntime) {
     let mut memory = [0u32; 4224];
-    say(rt, b"F12 data", read_data(b"", &mut memory).outcome());
+    say(rt, b"F12 data", done(read_data(b"", &mut memory)));
     end(rt);
-    say(rt, b"F13 33 sectors", read_disk(b"", &mut memory).outcome());
+    say(rt, b"F13 33 sectors", done(read_disk(b"", &mut memory)));
     end(rt);
     let mut text = [b'.'; 8];
     say(
         rt,
         b"F12 data written",
-        write_data(&memory, &mut text).outcome(),
+        counted(write_data(&memory, &mut text)),
     );
     end(rt);
 }
 
 fn frame(rt: HostRuntime) {
     let mut frame = [0u8; 65535];
-    say(rt, b"F12 frame", read_frame(b"", &mut frame).outcome());
+    say(rt, b"F12 frame", done(read_frame(b"", &mut frame)));
     end(rt);
     say(
         rt,
         b"F12 frame written",
-        write_frame(b"", &mut frame).outcome(),
+        counted(write_frame(b"", &mut frame)),
     );
     end(rt);
 }
 
 fn part(rt: HostRuntime) {
     let mut part = [0u32; 100];
-    say(
-        rt,
-        b"F13 no whole sector",
-        read_disk(b"", &mut part).outcome(),
-    );
+    say(rt, b"F13 no whole sector", done(read_disk(b"", &mut part)));
     end(rt);
 }

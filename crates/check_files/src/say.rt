@@ -12,9 +12,12 @@ pub fn say(rt: HostRuntime, point: &[u8], outcome: Outcome) {
     let _ = print!(rt; ": {number} {place} {count}");
 }
 
-// Prints a word in hexadecimal.
-pub fn show(rt: HostRuntime, word: u64) {
-    let _ = print!(rt; " {word:x}");
+// Prints words in hexadecimal, and ends the line.
+pub fn show(rt: HostRuntime, words: &[u64]) {
+    for word in words {
+        let _ = print!(rt; " {word:x}");
+    }
+    end(rt);
 }
 
 // Ends the line.

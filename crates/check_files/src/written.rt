@@ -1,24 +1,22 @@
 // F10, F11, F13: parts of a disk whose words are their own places, written into 4,096 bytes. Each line shows the last digit of the first and
 // of the last word of the first sector, its last LF, and the byte after the third sector.
-use crate::say::{end, say, show};
+// Stays (4, 6): each word is set to its own place, which `fill` can't.
+use crate::say::{say, show};
 use files::write_disk;
+use text::outcomes::counted;
 
 fn try_part(rt: HostRuntime, point: &[u8], first: usize, sectors: usize, room: usize) {
     let mut disk = [0u32; 16384];
     number(&mut disk);
     let mut text = [b'.'; 4096];
     write_part(rt, point, &disk, first, sectors, room, &mut text);
-    show_bytes(rt, text);
+    show_bytes(rt, &text);
 }
 
 // Sets each word to its place.
-fn number(disk: &mut [u32]) {
-    let mut i = 0;
-    let mut word: u32 = 0;
-    while i < disk.len() {
-        disk[i] = word;
-        word = word.wrapping_add(1);
-        i += 1;
+fn number(disk: &mut [u32; 16384]) {
+    for (i, word) in disk.iter_mut().enumerate() {
+        *word = i as u32;
     }
 }
 
@@ -35,19 +33,23 @@ fn write_part(
         say(
             rt,
             point,
-            write_disk(disk, first, sectors, &mut text[0..room]).outcome(),
+            counted(write_disk(disk, first, sectors, &mut text[0..room])),
         );
     }
 }
 
-fn show_bytes(rt: HostRuntime, text: [u8; 4096]) {
-    show(rt, text[5] as u64);
-    show(rt, text[6] as u64);
-    show(rt, text[7] as u64);
-    show(rt, text[1150] as u64);
-    show(rt, text[1151] as u64);
-    show(rt, text[3456] as u64);
-    end(rt);
+fn show_bytes(rt: HostRuntime, text: &[u8; 4096]) {
+    show(
+        rt,
+        &[
+            u64::from(text[5]),
+            u64::from(text[6]),
+            u64::from(text[7]),
+            u64::from(text[1150]),
+            u64::from(text[1151]),
+            u64::from(text[3456]),
+        ],
+    );
 }
 
 pub fn disk(rt: HostRuntime) {

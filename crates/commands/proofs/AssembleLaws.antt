@@ -6,7 +6,8 @@ use native.Mathlib.Omega.{arith}
 use lib.ListN.{length, take}
 use Rattle.text.specs.declared.Outcome.{Outcome}
 use Rattle.labels.specs.Limits.{most_source}
-use Rattle.assembler.specs.declared.Assembled.{Assembled}
+use Rattle.std.specs.Prelude.{Result}
+use Rattle.assembler.specs.declared.AssembleError.{AssembleError}
 use Rattle.assembler.specs.Answers.{assembled_outcome}
 use Rattle.assembler.specs.Promises.{Assembling}
 use Rattle.assembler.proofs.CallLaws.{long_refused, long_alike}
@@ -15,7 +16,7 @@ use Rattle.files.proofs.FrontLaws.{by_front}
 use Rattle.commands.specs.Program.{TextAssembled, FrontAssembled}
 
 -- The first n bytes of a buffer were assembled, which has room for one byte more than the longest source.
-module _ (buffer : List ℕ) (n : ℕ) {image memory image_after memory_after : List ℕ} {r : Assembled} {t : Outcome} (room : most_source < length buffer)
+module _ (buffer : List ℕ) (n : ℕ) {image memory image_after memory_after : List ℕ} {r : Result (Unit {0}) AssembleError} {t : Outcome} (room : most_source < length buffer)
     (assembled : Assembling (take n buffer) image memory r image_after memory_after) (says : t ≡ assembled_outcome r) where
   whole-assembled : (whole : List ℕ) → IsFront buffer n whole → TextAssembled whole t image memory image_after memory_after
   whole-assembled whole front =

@@ -3,17 +3,18 @@ use Rattle.std.specs.Prelude.{ℕ, cond, List, [], ◌∷◌, eqb}
 use Rattle.text.specs.Bytes.{bytes}
 use Rattle.text.specs.Numerals.{decimal}
 use Rattle.console.specs.Line.{PiecesPut}
+use Rattle.commands.specs.declared.assembling.WrittenFiles.{WrittenFiles}
+use Rattle.commands.specs.declared.assembling.WrittenFiles.TheVariants.{Neither, First, Both}
 
 -- How many instructions it has.
 abbrev pub count_pieces : ℕ → List (List ℕ)
 count_pieces count = decimal count ∷ cond (eqb count 1) (bytes " instruction; ") (bytes " instructions; ") ∷ []
 
--- Which of its two files are written, by how many.
-abbrev pub written_pieces : ℕ → List ℕ → List ℕ → List (List ℕ)
-written_pieces written first second =
-    cond (eqb written 0) (bytes "nothing is written\n" ∷ [])
-    (cond (eqb written 1) (first ∷ bytes " is written, " ∷ second ∷ bytes " is not\n" ∷ [])
-    (first ∷ bytes " and " ∷ second ∷ bytes " are written\n" ∷ []))
+-- Which of its two files are written.
+abbrev pub written_pieces : WrittenFiles → List ℕ → List ℕ → List (List ℕ)
+written_pieces Neither first second = bytes "nothing is written\n" ∷ []
+written_pieces First first second = first ∷ bytes " is written, " ∷ second ∷ bytes " is not\n" ∷ []
+written_pieces Both first second = first ∷ bytes " and " ∷ second ∷ bytes " are written\n" ∷ []
 
 -- A name that an argument gives, which can't be named here, is put on a line.
 pub record NamePut (before : List ℕ) (at : ℕ) (after : List ℕ) (r : ℕ) : Type 0 where
@@ -21,7 +22,7 @@ pub record NamePut (before : List ℕ) (at : ℕ) (after : List ℕ) (r : ℕ) :
   pub is-put : PiecesPut (name ∷ []) before at after r
 
 -- Which files are written is put on a line, their names being two such.
-pub record WrittenPut (written : ℕ) (before : List ℕ) (at : ℕ) (after : List ℕ) (r : ℕ) : Type 0 where
+pub record WrittenPut (written : WrittenFiles) (before : List ℕ) (at : ℕ) (after : List ℕ) (r : ℕ) : Type 0 where
   pub first : List ℕ
   pub second : List ℕ
   pub is-put : PiecesPut (written_pieces written first second) before at after r

@@ -1,4 +1,5 @@
 // The command `picture`: a frame as a picture.
+// Stays (6): the picture's length is what `put_picture` answers; no heap.
 ghost use Rattle.std.specs.Prelude.{◌+◌, ◌^◌, ◌<◌};
 
 use memories::{commit_at, load_frame_at, names_clash, say_at, write_new_bytes};
@@ -15,7 +16,7 @@ pub fn draw_frame(rt: HostRuntime, monitor: usize)
         return;
     }
     let mut frame = [0u8; 65536];
-    if !load_frame_at(rt, monitor, &mut frame) {
+    if load_frame_at(rt, monitor, &mut frame).is_none() {
         return;
     }
     let picture = monitor + 1;

@@ -1,10 +1,12 @@
 // The command `list`: an instruction file as assembly text.
+// Stays (2, 4, 6): no heap, and a name need not be text, so a line is put into an array; ROOM is what the longest listing has.
 ghost use Rattle.std.specs.Prelude.{◌≡◌, length};
 
 use crate::assembling::put_argument;
 use console::{LINE, put_if_room, say, tell};
 use lister::{list, used_words};
-use memories::{load_image_at, refuse_at};
+use memories::{accept_at, load_image_at};
+use text::outcomes::counted;
 
 // Room for a listing of 4,096 words: a line of one has at most 46 bytes.
 const ROOM: usize = 188_416;
@@ -12,7 +14,7 @@ const ROOM: usize = 188_416;
 // Prints the words of the instruction file that an argument names, up to the last that is not zero in its low 48 bits, as assembly text.
 pub fn list_file(rt: HostRuntime, i: usize) {
     let mut image = [0u64; 4096];
-    if load_image_at(rt, i, &mut image) {
+    if load_image_at(rt, i, &mut image).is_some() {
         list_image(rt, i, &image);
     }
 }
@@ -45,11 +47,8 @@ fn room() -> [u8; ROOM]
 // Prints the listing of words, or why they are refused.
 fn list_words(rt: HostRuntime, i: usize, words: &[u64]) {
     let mut text = room();
-    let outcome = list(words, &mut text).outcome();
-    if outcome.number != 0 {
-        refuse_at(rt, i, outcome.number, outcome.place);
-        return;
+    let outcome = counted(list(words, &mut text));
+    if let Some(count) = accept_at(rt, i, outcome) {
+        say(rt, &text[..count]);
     }
-    let count = outcome.count;
-    say(rt, &text[..count]);
 }

@@ -1,4 +1,5 @@
 // The command `show`: a saved record by its fields.
+// Stays (6): the text's length is what `put_record` answers; no heap.
 use console::say;
 use memories::load_record_at;
 use outputs::put_record;
@@ -8,11 +9,9 @@ const ROOM: usize = 832;
 
 // Prints the saved record that an argument names.
 pub fn show_record(rt: HostRuntime, i: usize) {
-    let read = load_record_at(rt, i);
-    if !read.is_read {
+    let Some(state) = load_record_at(rt, i) else {
         return;
-    }
-    let state = read.state;
+    };
     let mut text = [0u8; ROOM];
     let n = put_record(state, &mut text);
     say(rt, &text[..n]);

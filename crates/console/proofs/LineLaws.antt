@@ -6,7 +6,7 @@ use mathlib.Core.List.{List, [], ◌++◌}
 use native.Mathlib.Omega.{arith}
 use lib.ListN.{length, get_or, get_or-eq_default, set, length-append}
 use lib.Dec.{eqb}
-use borrow.Author.Tests.{eqb-true}
+use denote.Ref.{Bor}
 use Rattle.text.specs.Bytes.{bytes}
 use Rattle.text.specs.Lines.{LF}
 use Rattle.text.specs.Numerals.{digit_count, decimal}
@@ -16,7 +16,9 @@ use Rattle.text.proofs.DecimalLaws.{length-decimal, count_le}
 use Rattle.text.proofs.PieceLaws.{more}
 use Rattle.text.proofs.PutLaws.{put_one}
 use Rattle.text.proofs.TableLaws.{most_rule}
-use Rattle.text.proofs.Truth.{all_below, below}
+use Rattle.text.specs.Same.{same}
+use Rattle.text.proofs.SameLaws.{table_rule}
+use Rattle.text.proofs.Truth.{all_below}
 
 -- ---- a count
 
@@ -42,11 +44,12 @@ pub none_above : (n : ℕ) → 21 ≤ n → sentence n ≡ []
 unfolding sentence sentences
 none_above n h = get_or-eq_default sentences [] h
 
--- The table's rows are as long, by a test computed over it.
-pub rows_length : (rows : List (List ℕ)) (d : List ℕ) → all_below (λ k. eqb (length (get_or rows k d)) longest) 21 ≡ true → (n : ℕ) → n < 21 → length (get_or rows n d) ≡ longest
-rows_length rows d e n h = eqb-true _ _ (below (λ k. eqb (length (get_or rows k d)) longest) 21 e n h)
+-- A table of texts, by a test computed over its n entries.
+pub texts_rule : (rule : ℕ → List ℕ) (n : ℕ) (rows : List (Bor (List ℕ))) (d : Bor (List ℕ)) → all_below (λ k. same (get_or rows k d).now (rule k)) n ≡ true
+    → (k : ℕ) → k < n → (get_or rows k d).now ≡ rule k
+texts_rule rule n rows d = table_rule (λ k. (get_or rows k d).now) rule n
 
--- No sentence has more bytes than a row.
+-- No sentence has more bytes.
 pub sentence_most : (n : ℕ) → n < 21 → length (sentence n) ≤ longest
 unfolding sentence
 sentence_most = most_rule (λ k. length (sentence k)) longest 21 refl

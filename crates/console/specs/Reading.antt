@@ -1,17 +1,14 @@
 -- What reading a file promises.
-use Rattle.std.specs.Prelude.{ℕ, ◌≡◌, List}
+use Rattle.std.specs.Prelude.{ℕ, ◌≡◌, List, Option, Some, None, Result, Ok, Err}
 use Rattle.console.specs.Counts.{IsPrefixLen}
-use Rattle.console.specs.declared.Got.{Got}
-use Rattle.console.specs.declared.Got.TheVariants.{Bytes, TooLong, Nothing}
+use Rattle.console.specs.declared.NotRead.{NotRead}
 
 -- A count of bytes lies within the buffer.
-abbrev pub GotIn : Got → List ℕ → Type 0
-GotIn (Bytes n) buffer = IsPrefixLen n buffer
-GotIn TooLong buffer = Unit
-GotIn Nothing buffer = Unit
+abbrev pub GotIn : Result ℕ NotRead → List ℕ → Type 0
+GotIn (Ok n) buffer = IsPrefixLen n buffer
+GotIn (Err _) buffer = Unit
 
 -- A count of bytes is n.
-abbrev pub EndOf : ℕ → Got → Type 0
-EndOf n (Bytes k) = k ≡ n
-EndOf n TooLong = Unit
-EndOf n Nothing = Unit
+abbrev pub EndOf : ℕ → Option ℕ → Type 0
+EndOf n (Some k) = k ≡ n
+EndOf n None = Unit

@@ -1,4 +1,5 @@
 // Why a call of the system failed, on standard error.
+// Stays (1, 4, 5, 6): a name need not be text, so `write!` puts the error's words alone; what has no room is left out, as `Line.appended` has it.
 ghost use Rattle.std.specs.Prelude.{◌≤◌, length};
 ghost use Rattle.console.specs.Counts.{IsPrefixLen};
 

@@ -1,4 +1,6 @@
-// Files opened by their paths. A path is bytes; the system's library takes those that are UTF-8 text, and another names no file.
+// Files opened by their paths. A path is bytes; the system's library takes those that are UTF-8 text, and another names no file. (Each way to open has its own
+// options; one function that takes them would be no plainer.)
+// Stays (2): each way to open has its own options, and its name says which; one function that takes them would be no plainer.
 ghost use Rattle.std.specs.Prelude.{◌≡◌, MatchResult};
 ghost use Rattle.std.specs.Str.{IsUtf8};
 
@@ -12,10 +14,7 @@ const EILSEQ: i32 = 84;
 pub fn path_text(path: &[u8]) -> io::Result<&str>
     ensures { MatchResult result (λ text. text.now ≡ path.now) (λ _. ¬ (IsUtf8 path.now)) }
 {
-    match str::from_utf8(path) {
-        Ok(text) => Ok(text),
-        Err(_) => Err(io::Error::from_raw_os_error(EILSEQ)),
-    }
+    str::from_utf8(path).map_err(|_| io::Error::from_raw_os_error(EILSEQ))
 }
 
 // Opens a file for reading.

@@ -1,4 +1,6 @@
-// Lines on standard output. A line is put together first, so that it is written at once.
+// Lines on standard output. A line is put together first, so that it is written at once. Its pieces are bytes: a file's name need not be text, so `write!` can't
+// put it, and `PiecesPut` says each byte.
+// Stays (1, 2, 4, 6): by `Line.appended` a line goes on without what has no room, so none is asked for; a file's name need not be text, so a line is bytes in an array (no heap).
 ghost use Rattle.std.specs.Prelude.{[], ◌∷◌, ◌≤◌, length};
 ghost use Rattle.text.specs.Numerals.{decimal};
 ghost use Rattle.console.specs.Line.{PiecesPut};
@@ -30,7 +32,8 @@ pub fn say_of(rt: HostRuntime, file: &[u8], words: &[u8]) {
     say(rt, &line[..end]);
 }
 
-// Puts bytes at a place of a line and returns the place after them; where there is no room for them, puts none.
+// Puts bytes at a place of a line and returns the place after them; where there is no room for them, puts none. (No `Option`: by `Line.appended` the line goes
+// on without them.)
 pub fn put_if_room(line: &mut [u8], at: usize, bytes: &[u8]) -> usize
     requires { at ≤ length line.old }
     ensures { PiecesPut (bytes.now ∷ []) line.old at line.new result }

@@ -1,31 +1,34 @@
 // A file read whole.
-ghost use Rattle.std.specs.Prelude.{◌≤◌, length, IfOk};
+// Stays (1, 2, 3): `read_full` reads standard input, of which document 01 takes what came; a read says itself how far the loop goes.
+ghost use Rattle.std.specs.Prelude.{◌≤◌, length, IfOk, IfSome};
 ghost use Rattle.console.specs.Counts.{IsPrefixLen};
 ghost use Rattle.console.specs.Reading.{GotIn, EndOf};
 
-use crate::Got;
+use crate::NotRead;
 use crate::failure::fail;
 use crate::open::open_read;
 use crate::output::say_of;
 use std::io;
 use std::io::{Error, Read};
 
-// Reads a file into the front of a buffer. Where the file can't be opened or read, standard error tells why and standard output that it is not read.
-pub fn read_file(rt: HostRuntime, path: &[u8], buffer: &mut [u8]) -> Got
+// Reads a file into the front of a buffer and returns how many bytes it has. Where the file can't be opened or read, standard error tells why and standard
+// output that it is not read.
+pub fn read_file(rt: HostRuntime, path: &[u8], buffer: &mut [u8]) -> Result<usize, NotRead>
     ensures { GotIn result buffer.new }
 {
     match read_path(rt, path, buffer) {
-        Ok(got) => got,
+        Ok(Some(n)) => Ok(n),
+        Ok(None) => Err(NotRead::TooLong),
         Err(error) => {
             say_not_read(rt, path, error);
-            Got::Nothing
+            Err(NotRead::Failed)
         }
     }
 }
 
 // Opens a file and reads it.
-fn read_path(rt: HostRuntime, path: &[u8], buffer: &mut [u8]) -> io::Result<Got>
-    ensures { IfOk result (λ got. GotIn got buffer.new) }
+fn read_path(rt: HostRuntime, path: &[u8], buffer: &mut [u8]) -> io::Result<Option<usize>>
+    ensures { IfOk result (λ count. IfSome count (λ n. IsPrefixLen n buffer.new)) }
 {
     let mut file = open_read(rt, path)?;
     read_open(&mut file, buffer)
@@ -37,43 +40,48 @@ fn say_not_read(rt: HostRuntime, path: &[u8], error: Error) {
     say_of(rt, path, b": can't be read\n");
 }
 
-// Reads until the file ends, a read fails or the buffer is full.
-fn read_open<R: Read>(from: &mut R, buffer: &mut [u8]) -> io::Result<Got>
-    ensures { IfOk result (λ got. GotIn got buffer.new) }
+// Reads until the file ends, and returns how many bytes it has; none of one that is longer than the buffer.
+fn read_open<R: Read>(from: &mut R, buffer: &mut [u8]) -> io::Result<Option<usize>>
+    ensures { IfOk result (λ count. IfSome count (λ n. IsPrefixLen n buffer.new)) }
 {
-    let mut n = 0;
-    while n < buffer.len() {
-        let count = from.read(&mut buffer[n..])?;
-        if count == 0 {
-            return Ok(Got::Bytes(n));
-        }
-        n += count;
+    let (n, stopped) = read_some(from, buffer);
+    stopped?;
+    if n < buffer.len() {
+        return Ok(Some(n));
     }
     end_of(from, n)
 }
 
-// What a full buffer of n bytes tells: whether the file ends here.
-fn end_of<R: Read>(from: &mut R, n: usize) -> io::Result<Got>
-    ensures { IfOk result (λ got. EndOf n got) }
+// What a full buffer of n bytes tells: n where the file ends here, else none.
+fn end_of<R: Read>(from: &mut R, n: usize) -> io::Result<Option<usize>>
+    ensures { IfOk result (λ count. EndOf n count) }
 {
     let mut one = [0u8; 1];
     if from.read(&mut one)? == 0 {
-        return Ok(Got::Bytes(n));
+        return Ok(Some(n));
     }
-    Ok(Got::TooLong)
+    Ok(None)
 }
 
 // Reads until the buffer is full, the input ends or a read fails, and returns how many bytes stand at the front then.
 pub fn read_full<R: Read>(from: &mut R, buffer: &mut [u8]) -> usize
     ensures { IsPrefixLen result buffer.new }
 {
+    let (n, _) = read_some(from, buffer);
+    n
+}
+
+// The same, and why a read failed, if one did. (The loop has no step of one: each read says how far it went.)
+fn read_some<R: Read>(from: &mut R, buffer: &mut [u8]) -> (usize, io::Result<()>)
+    ensures { IsPrefixLen result.0 buffer.new }
+{
     let mut n = 0;
     while n < buffer.len() {
-        let count = from.read(&mut buffer[n..]).unwrap_or(0);
-        if count == 0 {
-            break;
+        match from.read(&mut buffer[n..]) {
+            Ok(0) => break,
+            Ok(count) => n += count,
+            Err(error) => return (n, Err(error)),
         }
-        n += count;
     }
-    n
+    (n, Ok(()))
 }

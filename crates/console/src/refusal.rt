@@ -1,30 +1,26 @@
-// The line that is said of a refusal.
+// The line that is said of a refusal. Its number is the documents', as `text::Outcome` has it for C.
+// Stays (1, 4, 6): the number is documents 01 and 02's, as C and the line N have it; a file's name need not be text, so the line is bytes in an array (no heap).
 ghost use Rattle.std.specs.Prelude.{◌≡◌, ◌+◌, ◌≤◌, length};
 ghost use Rattle.text.specs.Place.{put, PutsWithin};
 ghost use Rattle.console.specs.Counts.{IsPrefixLen};
 ghost use Rattle.console.specs.Refusals.{has_line, counted, place_text, refusal_line};
 
+use crate::arguments::NAME;
 use crate::output::say;
 use crate::sentences::put_sentence;
 use text::decimal::{digit_count, put_decimal};
 use text::lines::LF;
 use text::place::put_bytes;
 
-// The longest name of a file, and room for it and the rest of the line.
-const NAME: usize = 4096;
-
+// Room for the longest name of a file and the rest of the line.
 const ROOM: usize = 4352;
 
 // Says that a file is refused: its name, the line or the word, the number and its question in words. Of a longer name than a file can have, the
 // front is said.
 pub fn say_refusal(rt: HostRuntime, file: &[u8], number: u32, place: usize) {
     let mut line = [0u8; ROOM];
-    if NAME < file.len() {
-        let end = put_refusal(&mut line, &file[..NAME], number, place);
-        say(rt, &line[..end]);
-        return;
-    }
-    let end = put_refusal(&mut line, file, number, place);
+    let front = &file[..file.len().min(NAME)];
+    let end = put_refusal(&mut line, front, number, place);
     say(rt, &line[..end]);
 }
 
@@ -60,11 +56,7 @@ fn put_place(out: &mut [u8], at: usize, number: u32, place: usize) -> usize
 fn has_line(number: u32, place: usize) -> bool
     ensures { result ≡ has_line number place }
 {
-    match number {
-        2..=12 => 0 < place,
-        17..=19 => 0 < place,
-        _ => false,
-    }
+    matches!(number, 2..=12 | 17..=19) && 0 < place
 }
 
 // Puts what is counted and its number, and a colon and a blank after them; returns the place after these.

@@ -1,4 +1,5 @@
 // The clock.
+// Stays (5): these devices fit any computer's registers, so their contracts ask for a number of them and no more.
 ghost use Rattle.std.specs.Prelude.{◌≡◌, ◌≤◌, length};
 ghost use Rattle.devices.specs.Numbers.{device_registers};
 ghost use Rattle.devices.specs.Devices.{clocked};
@@ -10,5 +11,5 @@ pub fn step_clock(io: &mut [u32])
     requires { device_registers ≤ length io.old }
     ensures { io.new ≡ clocked io.old }
 {
-    io[CLKS] = std::num::wrapping_add_u32(io[CLKS], 1);
+    io[CLKS] = io[CLKS].wrapping_add(1);
 }

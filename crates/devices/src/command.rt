@@ -1,4 +1,5 @@
 // An out to diskcmd.
+// Stays (1, 7): diskcmd is a register of two bits that a program writes: the number is what the definition `taken` speaks of.
 ghost use Rattle.std.specs.Prelude.{◌≡◌, ◌≤◌, length};
 ghost use Rattle.devices.specs.Numbers.{device_registers};
 ghost use Rattle.devices.specs.Command.{taken, attempted, io_after};

@@ -1,4 +1,5 @@
 // Steps 5 to 7 of a cycle.
+// Stays (5): the C interface lends the memories one by one, and the borrow of each ends with its step.
 ghost use Rattle.std.specs.Prelude.{◌≡◌, ◌≤◌};
 ghost use Rattle.devices.specs.Bus.{bus};
 ghost use Rattle.devices.specs.Disk.{HasSector};

@@ -1,4 +1,6 @@
 // The disk's step of a cycle.
+// Stays (1, 4, 5, 7): a drive is copied field by field: copied whole it cost a cycle 21 instructions for 5 (docs/BENCHMARKS.md); diskcmd is a register's number; the
+// memories are lent one by one by the C interface.
 ghost use Rattle.std.specs.Prelude.{◌≡◌, ◌+◌, ◌<◌, ◌≤◌, length, slice_index, slice_set};
 ghost use Rattle.devices.specs.Numbers.{device_registers};
 ghost use Rattle.devices.specs.Bus.{bus};

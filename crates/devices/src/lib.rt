@@ -1,4 +1,5 @@
 // The timer, the disk and the clock, as any computer has them.
+// Stays (1): a drive's three numbers are fields of the saved record and of the C interface, zero where the disk is free; `Taken` has two ways without a value.
 #![tactic(auto)]
 
 pub mod clock;

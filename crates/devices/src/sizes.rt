@@ -1,4 +1,5 @@
 // The disk's sizes and times.
+// Stays (2): the sector of these devices and that of the files are said each where their definitions stand.
 
 // The words of a sector, and the number of its last.
 pub const SECTOR: usize = 128;

@@ -1,4 +1,5 @@
 // Which drives are sound.
+// Stays (1, 5): any three numbers are asked, unsound ones too (question 13), so no type can rule them out.
 ghost use Rattle.std.specs.Prelude.{◌≡◌};
 ghost use Rattle.devices.specs.Command.{is_read_or_write};
 ghost use Rattle.devices.specs.Soundness.{is_sound_free, is_sound_busy, is_sound_drive};
@@ -19,42 +20,22 @@ pub fn is_sound_drive(d: Drive, status: u32, command: u32) -> bool
 fn is_sound_free(d: Drive, status: u32, command: u32) -> bool
     ensures { result ≡ is_sound_free d status command }
 {
-    if status != 0 {
-        return false;
-    }
-    if command != 0 {
-        return false;
-    }
-    if d.sector != 0 {
-        return false;
-    }
-    d.buffer == 0
+    status == 0 && command == 0 && d.sector == 0 && d.buffer == 0
 }
 
 fn is_sound_busy(d: Drive, status: u32, command: u32) -> bool
     ensures { result ≡ is_sound_busy d status command }
 {
-    if status != 1 {
-        return false;
-    }
-    if !is_command(command) {
-        return false;
-    }
-    if COMMAND_CYCLES < d.left {
-        return false;
-    }
-    if LAST_SECTOR < d.sector {
-        return false;
-    }
-    d.buffer <= LAST_BUFFER
+    status == 1
+        && is_command(command)
+        && d.left <= COMMAND_CYCLES
+        && d.sector <= LAST_SECTOR
+        && d.buffer <= LAST_BUFFER
 }
 
 // Whether a number is that of a disk command: 1, read, or 2, write.
 fn is_command(n: u32) -> bool
     ensures { result ≡ is_read_or_write n }
 {
-    if n == 0 {
-        return false;
-    }
-    n <= 2
+    1 <= n && n <= 2
 }

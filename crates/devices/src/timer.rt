@@ -19,5 +19,5 @@ pub fn step_timer(io: &mut [u32])
         io[TIMERCURRENT] = 0;
         return;
     }
-    io[TIMERCURRENT] = std::num::wrapping_add_u32(current, 1);
+    io[TIMERCURRENT] = current.wrapping_add(1);
 }

@@ -1,4 +1,5 @@
 // out to diskcmd: what becomes of a command, as PC and status.
+// Stays (1, 7): the status is the record's number, and the definition `commanded` has it.
 ghost use Rattle.std.specs.Prelude.{◌≡◌, List, ℕ, length};
 ghost use Rattle.machine.specs.Execution.{commanded};
 ghost use Rattle.executor.specs.Lent.{packed};

@@ -1,15 +1,16 @@
 // What the operations do: a function for each group of opcodes, lent what it works on.
+// Stays (1, 2): the status is the record's number, and the definition `executed` has it; the size is the one of the data memory.
 ghost use Rattle.std.specs.Prelude.{◌≡◌, List, ℕ, ◌≤◌, ◌<◌, length};
-ghost use Rattle.text.specs.Numerals.{HexWords};
 ghost use Rattle.isa.specs.Operations.{operation_of, jal, lw, sw, reti, input as input_operation};
 ghost use Rattle.machine.specs.Execution.{executed};
-ghost use Rattle.executor.specs.Lent.{packed, HaveText};
+ghost use Rattle.executor.specs.Lent.{packed};
 
 use crate::progress::{end, jump, next, onward};
-use crate::registers::put_register;
+use crate::registers::Registers;
 use isa::io::{IRQRETURN, is_listed};
 use machine::scalars::{with_handler, with_pc};
 use machine::{Core, Operands};
+use text::hex_words::HexTable;
 use words::arithmetic::plus;
 use words::operations::{calculate, holds};
 
@@ -21,14 +22,13 @@ pub fn calculation(
     op: u32,
     c: Core,
     o: Operands,
-    regs: &mut [u32; 16],
-    text: &mut [u8; 118],
-    table: &[u64; 1024],
+    registers: &mut Registers,
+    table: &HexTable,
 ) -> Core
-    requires { (op < 9) × ((o.target < 16) × (HaveText regs.old text.old × HexWords table.now)) }
-    ensures { ((io memory disk frame : List ℕ) → packed result regs.new io memory disk frame ≡ executed (operation_of op) o (packed c regs.old io memory disk frame)) × HaveText regs.new text.new }
+    requires { (op < 9) × (o.target < 16) }
+    ensures { (io memory disk frame : List ℕ) → packed result registers.new.regs io memory disk frame ≡ executed (operation_of op) o (packed c registers.old.regs io memory disk frame) }
 {
-    put_register(regs, text, o.target, calculate(op, o.rs, o.rt, o.rm), table);
+    registers.put(o.target, calculate(op, o.rs, o.rt, o.rm), table);
     onward(c)
 }
 
@@ -44,17 +44,11 @@ pub fn branch(op: u32, c: Core, o: Operands) -> Core
 }
 
 // jal.
-pub fn link(
-    c: Core,
-    o: Operands,
-    regs: &mut [u32; 16],
-    text: &mut [u8; 118],
-    table: &[u64; 1024],
-) -> Core
-    requires { (o.target < 16) × (HaveText regs.old text.old × HexWords table.now) }
-    ensures { ((io memory disk frame : List ℕ) → packed result regs.new io memory disk frame ≡ executed jal o (packed c regs.old io memory disk frame)) × HaveText regs.new text.new }
+pub fn link(c: Core, o: Operands, registers: &mut Registers, table: &HexTable) -> Core
+    requires { o.target < 16 }
+    ensures { (io memory disk frame : List ℕ) → packed result registers.new.regs io memory disk frame ≡ executed jal o (packed c registers.old.regs io memory disk frame) }
 {
-    put_register(regs, text, o.target, next(c), table);
+    registers.put(o.target, next(c), table);
     jump(c, o.rm)
 }
 
@@ -62,19 +56,18 @@ pub fn link(
 pub fn load(
     c: Core,
     o: Operands,
-    regs: &mut [u32; 16],
-    text: &mut [u8; 118],
+    registers: &mut Registers,
     memory: &[u32],
-    table: &[u64; 1024],
+    table: &HexTable,
 ) -> Core
-    requires { (o.target < 16) × (HaveText regs.old text.old × (HexWords table.now × (length memory.now ≡ 4096))) }
-    ensures { ((io disk frame : List ℕ) → packed result regs.new io memory.now disk frame ≡ executed lw o (packed c regs.old io memory.now disk frame)) × HaveText regs.new text.new }
+    requires { (o.target < 16) × (length memory.now ≡ 4096) }
+    ensures { (io disk frame : List ℕ) → packed result registers.new.regs io memory.now disk frame ≡ executed lw o (packed c registers.old.regs io memory.now disk frame) }
 {
     let a = plus(o.rs, o.rt);
     if MEMORY <= a {
         return end(c, 3);
     }
-    put_register(regs, text, o.target, plus(memory[a as usize], o.rm), table);
+    registers.put(o.target, plus(memory[a as usize], o.rm), table);
     onward(c)
 }
 
@@ -102,17 +95,16 @@ pub fn leave_handler(c: Core, o: Operands, io: &[u32; 23]) -> Core
 pub fn input(
     c: Core,
     o: Operands,
-    regs: &mut [u32; 16],
-    text: &mut [u8; 118],
+    registers: &mut Registers,
     io: &[u32; 23],
-    table: &[u64; 1024],
+    table: &HexTable,
 ) -> Core
-    requires { (o.target < 16) × (HaveText regs.old text.old × HexWords table.now) }
-    ensures { ((memory disk frame : List ℕ) → packed result regs.new io.now memory disk frame ≡ executed input_operation o (packed c regs.old io.now memory disk frame)) × HaveText regs.new text.new }
+    requires { o.target < 16 }
+    ensures { (memory disk frame : List ℕ) → packed result registers.new.regs io.now memory disk frame ≡ executed input_operation o (packed c registers.old.regs io.now memory disk frame) }
 {
     let a = plus(o.rs, o.rt);
     if is_listed(a) {
-        put_register(regs, text, o.target, io[a as usize], table);
+        registers.put(o.target, io[a as usize], table);
         return onward(c);
     }
     end(c, 4)

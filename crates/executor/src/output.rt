@@ -1,4 +1,5 @@
 // out: what an I/O register does with a value.
+// Stays (1, 7): a program computes the register's number, which the definition `outputted` matches.
 ghost use Rattle.std.specs.Prelude.{◌≡◌, cond, List, ℕ, ◌%◌, ◌<◌, eqb, length, get_or, set};
 ghost use Rattle.isa.specs.Operations.{output as output_operation};
 ghost use Rattle.isa.specs.Registers.{monitoraddr, monitordata};

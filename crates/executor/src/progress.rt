@@ -1,4 +1,5 @@
 // What ends an instruction: the next PC, or a status.
+// Stays (1): the status is the record's number, a field of the C interface.
 ghost use Rattle.std.specs.Prelude.{◌≡◌, ◌+◌, ◌%◌};
 ghost use Rattle.machine.specs.State.{core_status, core_pc};
 

@@ -1,5 +1,6 @@
 -- A memory file is read as well from its front: for a memory of n words with k digits each, n × (k + 1) bytes, the digits and an LF for each word,
 -- and one byte more decide what a reader tells and leaves. Who reads a text of any length needs to keep no more of it. Assumes nothing.
+use Rattle.std.specs.Prelude.{Result}
 use Prim.Native.Nat.{ℕ, zero, suc, ◌+◌, ◌-◌, ◌*◌, ◌≤◌, ◌<◌}
 use mathlib.Core.Path.{◌≡◌, refl, sym, ◌∙◌, ap}
 use mathlib.Core.Bool.{Bool, true, false, cond}
@@ -14,7 +15,7 @@ use Rattle.text.specs.declared.Outcome.{Outcome}
 use Rattle.text.specs.Questions.{accepted, first_bad}
 use Rattle.text.specs.Lines.{LF, lines, first_line}
 use Rattle.text.proofs.QuestionLaws.{first_yes}
-use Rattle.files.specs.declared.FileRead.{FileRead}
+use Rattle.files.specs.declared.FileError.{FileError}
 use Rattle.files.specs.MemoryFile.{is_word, word_questions, lines_outcome, read_outcome}
 use Rattle.files.specs.Promises.{MemoryRead}
 use Rattle.files.proofs.CheckLaws.{check_full, check_bad, check_good, good-room, good-next}
@@ -124,7 +125,7 @@ module _ (k : ℕ) (is_right : ℕ → Bool) (m : ℕ) (text : List ℕ) where
   cut-refused room h long good = long_refused k room text (omega arith) (first_yes 1 0 (is_right room) _ (omega arith) good).1
 
   -- .. so who reads the cut has read the text.
-  pub cut-read : (memory : List ℕ) (r : FileRead) (after : List ℕ) → length memory * (k + 1) < m
+  pub cut-read : (memory : List ℕ) (r : Result (Unit {0}) FileError) (after : List ℕ) → length memory * (k + 1) < m
       → MemoryRead k is_right (take m text) memory r after → MemoryRead k is_right text memory r after
   cut-read memory r after h p = go (leb (length text) m) refl
     where

@@ -1,4 +1,5 @@
 -- The cycles of an irq2 file that is accepted stand at the front of the list that they are read into. Assumes nothing.
+use Rattle.std.specs.Prelude.{Result}
 use Prim.Native.Nat.{ℕ, ◌+◌, ◌≤◌}
 use mathlib.Core.Path.{◌≡◌, refl, sym, ◌∙◌, ap}
 use mathlib.Core.List.{List, [], ◌∷◌, ◌++◌}
@@ -10,13 +11,15 @@ use borrow.Author.Tests.{ltb-true}
 use Rattle.text.specs.declared.Outcome.{Outcome}
 use Rattle.text.specs.Questions.{accepted, first_bad}
 use Rattle.text.specs.Lines.{lines}
+use Rattle.text.specs.Numerals.{value}
+use Rattle.std.specs.List.{AllPass}
 use Rattle.text.proofs.QuestionLaws.{first_yes}
 use Rattle.text.proofs.PutLaws.{put_front}
-use Rattle.files.specs.declared.CyclesRead.{CyclesRead}
+use Rattle.files.specs.declared.CycleError.{CycleError}
 use Rattle.files.specs.Irq2File.{is_cycle, is_above, cycle_questions, irq2_outcome, file_cycles}
 use Rattle.files.specs.Answers.{cycles_read_outcome}
 use Rattle.files.specs.Promises.{Irq2Read}
-use Rattle.files.proofs.Irq2Laws.{irq2-rising}
+use Rattle.files.proofs.Irq2Laws.{irq2-cycles, irq2-rising}
 use Rattle.files.specs.Loaded.{AreCycles}
 
 module _ (room n : ℕ) (all : List (List ℕ)) where
@@ -52,8 +55,15 @@ module _ (room : ℕ) (text : List ℕ) (good : (irq2_outcome room text).number 
   unfolding irq2_outcome
   cycles-counted = rw length-map (ap (λ (t : Outcome). t.count) (lines-counted room (length (lines text)) (lines text) 0 (lines text) good))
 
+-- So many cycles were counted: the file has as many lines, each of them a cycle, and there is room for them.
+pub read_count : (room count : ℕ) (text : List ℕ) → accepted count ≡ irq2_outcome room text → (count ≡ length (lines text)) × (count ≤ room) × AllPass is_cycle (lines text)
+read_count room count text e =
+    let good : (irq2_outcome room text).number ≡ 0 = ap (λ (t : Outcome). t.number) (sym e) in
+    let all : count ≡ length (file_cycles text) = ap (λ (t : Outcome). t.count) e ∙ cycles-counted room text good in
+    (all ∙ length-map (lines text) (value 10), omega (arith, cycles-fit room text good), irq2-cycles room text good)
+
 -- The outcome of a file that was read, and the cycles then.
-module _ (text cycles : List ℕ) (r : CyclesRead) (after : List ℕ) (read : Irq2Read text cycles r after) (t : Outcome) (says : t ≡ cycles_read_outcome r) where
+module _ (text cycles : List ℕ) (r : Result ℕ CycleError) (after : List ℕ) (read : Irq2Read text cycles r after) (t : Outcome) (says : t ≡ cycles_read_outcome r) where
   outcome : t ≡ irq2_outcome (length cycles) text
   outcome = says ∙ read.answer
 

@@ -1,13 +1,13 @@
 -- Laws of filling a memory from a good file, over the digit count. Assumes nothing.
 use Prim.Native.Nat.{ℕ, suc, ◌+◌, ◌-◌, ◌^◌, ◌≤◌, ◌<◌}
-use mathlib.Core.Path.{◌≡◌, refl, ◌∙◌}
+use mathlib.Core.Path.{◌≡◌, ◌∙◌}
 use mathlib.Core.Bool.{true}
-use mathlib.Core.List.{List, ◌∷◌, ◌++◌, append_assoc, append-nil}
+use mathlib.Core.List.{List, ◌∷◌, ◌++◌, append_assoc}
 use native.Mathlib.Nat.{sub-zero, le_trans, pow-le-pow_right}
 use native.Mathlib.Omega.{arith}
 use native.Mathlib.Numerals.{add-one}
 use lib.ListN.{length, take, drop, set, replicate, length-set, drop_of_length-le}
-use lib.Seq.{take-suc-set, take_all}
+use lib.Seq.{take-suc-set}
 use lib.Dec.{eqb}
 use borrow.Author.Tests.{eqb-true}
 use Rattle.text.specs.Questions.{accepted, first_bad}
@@ -23,30 +23,6 @@ pub word_lt : (k : ℕ) (l : List ℕ) → is_word k l ≡ true → value 16 l <
 word_lt k l e =
     rw (← eqb-true (length l) k (and_left (eqb (length l) k) (all_digits 16 l) e)) (value_lt 16 l (and_right (eqb (length l) k) (all_digits 16 l) e))
 
--- ---- zero for the missing lines
-
--- The memory before is set to zero from a place on; m is the memory when this is done up to i.
-pub record Clearing (before : List ℕ) (from : ℕ) (m : List ℕ) (i : ℕ) : Type 0 where
-  pub rest : take i m ++ replicate (length m - i) 0 ≡ take from before ++ replicate (length before - from) 0
-  pub size : length m ≡ length before
-
-pub clear_start : {before : List ℕ} {from : ℕ} → Clearing before from before from
-clear_start = record { rest = refl; size = refl }
-
-module _ {before : List ℕ} {from : ℕ} {m : List ℕ} {i : ℕ} (l : Clearing before from m i) where
-  pub clear_turn : i < length m → Clearing before from (set m i 0) (i + 1)
-  clear_turn h =
-      let left : length m - i ≡ suc (length m - (i + 1)) = omega arith in
-      let turn : take (i + 1) (set m i 0) ++ replicate (length m - (i + 1)) 0 ≡ take i m ++ replicate (length m - i) 0
-      = rw (add-one i, take-suc-set m i 0 h, append_assoc, ← add-one i, left) in
-      record { rest = rw length-set turn ∙ l.rest; size = simp length-set l.size }
-
-  pub clear_end : length m ≤ i → m ≡ take from before ++ replicate (length before - from) 0
-  clear_end h =
-      let none : length m - i ≡ 0 = omega arith in
-      let whole : m ≡ take i m ++ replicate (length m - i) 0 = rw (take_all i m h, none, append-nil) in
-      whole ∙ l.rest
-
 -- ---- a word for each line
 
 -- A memory of n words is filled from a good text of k digits a line; m is the memory when i words are set and the next line begins at `at`.
@@ -57,9 +33,9 @@ pub record Filling (k n : ℕ) (text m : List ℕ) (at i : ℕ) : Type 0 where
   pub inside : at ≤ length text + 1
   pub done : i ≤ n
 
-pub fill_start : {k : ℕ} {text m : List ℕ} → (lines_outcome k (length m) text).number ≡ 0 → Filling k (length m) text m 0 0
+pub fill_start : {k n : ℕ} {text m : List ℕ} → (lines_outcome k n text).number ≡ 0 → length m ≡ n → Filling k n text m 0 0
 unfolding lines_outcome
-fill_start good = record { rest = rw sub-zero; good = good; size = refl; inside = omega arith; done = omega arith }
+fill_start good size = record { rest = rw sub-zero; good = good; size = size; inside = omega arith; done = omega arith }
 
 words_cons : (n i : ℕ) (l : List ℕ) (ls : List (List ℕ)) → file_words (n - i) (l ∷ ls) ≡ value 16 l ∷ file_words (n - (i + 1)) ls
 unfolding file_words

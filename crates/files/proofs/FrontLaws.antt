@@ -1,4 +1,5 @@
 -- The front of a text that a buffer holds: the whole of it, or a full buffer. Assumes nothing.
+use Rattle.std.specs.Prelude.{Result}
 use Prim.Native.Nat.{ℕ, ◌+◌, ◌*◌, ◌≤◌, ◌<◌}
 use mathlib.Core.Path.{◌≡◌, refl, sym, ◌∙◌, ap}
 use mathlib.Core.Bool.{Bool, true, false}
@@ -9,7 +10,7 @@ use lib.ListN.{length, take}
 use lib.Seq.{take_all, length-take-le}
 use borrow.Author.Tests.{leb-true, leb-false}
 use Rattle.text.specs.declared.Outcome.{Outcome}
-use Rattle.files.specs.declared.FileRead.{FileRead}
+use Rattle.files.specs.declared.FileError.{FileError}
 use Rattle.files.specs.MemoryFile.{read_outcome}
 use Rattle.files.specs.Front.{IsFront, FrontRead}
 use Rattle.files.specs.Loaded.{FileLoaded}
@@ -38,12 +39,12 @@ by_front P buffer n whole front read cut = go (leb (length whole) (length buffer
 
 module _ {k : ℕ} {is_right : ℕ → Bool} {before after : List ℕ} where
   -- Of a memory of a wrong length every text is refused.
-  wrong_read : (a b : List ℕ) {r : FileRead} → is_right (length before) ≡ false → MemoryRead k is_right a before r after → MemoryRead k is_right b before r after
+  wrong_read : (a b : List ℕ) {r : Result (Unit {0}) FileError} → is_right (length before) ≡ false → MemoryRead k is_right a before r after → MemoryRead k is_right b before r after
   unfolding read_outcome
   wrong_read a b wrong read = record { answer = read.answer ∙ rw wrong; words = rw wrong at read.words ∙ rw wrong }
 
   -- Who reads the front of a text has read the text, ..
-  pub front_read : (buffer : List ℕ) (n : ℕ) {r : FileRead} {t : Outcome} → MemoryRead k is_right (take n buffer) before r after → t ≡ file_read_outcome r
+  pub front_read : (buffer : List ℕ) (n : ℕ) {r : Result (Unit {0}) FileError} {t : Outcome} → MemoryRead k is_right (take n buffer) before r after → t ≡ file_read_outcome r
       → (is_right (length before) ≡ true → length before * (k + 1) < length buffer) → FrontRead k is_right buffer n t before after
   front_read buffer n {r} read says long whole front =
       let all = go (is_right (length before)) refl in

@@ -1,5 +1,6 @@
 -- An irq2 file is read as well from its front: for a list of n places n × 14 bytes, 13 digits and an LF for each cycle, and one byte more decide what the
 -- reader tells and leaves. Assumes nothing.
+use Rattle.std.specs.Prelude.{Result}
 use Prim.Native.Nat.{ℕ, zero, suc, ◌+◌, ◌-◌, ◌*◌, ◌≤◌, ◌<◌}
 use mathlib.Core.Path.{◌≡◌, refl, sym, ◌∙◌, ap}
 use mathlib.Core.Bool.{Bool, true, false}
@@ -15,7 +16,7 @@ use Rattle.text.specs.Questions.{accepted, refused, first_bad}
 use Rattle.text.specs.Numerals.{value}
 use Rattle.text.specs.Lines.{lines, first_line}
 use Rattle.text.proofs.LineLaws.{first-front, lines_at_lem}
-use Rattle.files.specs.declared.CyclesRead.{CyclesRead}
+use Rattle.files.specs.declared.CycleError.{CycleError}
 use Rattle.files.specs.Irq2File.{is_cycle, cycle_questions, irq2_outcome}
 use Rattle.files.specs.Promises.{Irq2Read}
 use Rattle.files.proofs.PutLaws.{drop-take}
@@ -131,7 +132,7 @@ module _ (room : ℕ) (text : List ℕ) (m : ℕ) (long : m < length text) where
 -- ---- any text
 
 -- Who reads the front of a text has read the text.
-pub cut-cycles : (m : ℕ) (text cycles : List ℕ) (r : CyclesRead) (after : List ℕ) → length cycles * 14 < m
+pub cut-cycles : (m : ℕ) (text cycles : List ℕ) (r : Result ℕ CycleError) (after : List ℕ) → length cycles * 14 < m
     → Irq2Read (take m text) cycles r after → Irq2Read text cycles r after
 unfolding irq2_outcome least_after
 cut-cycles m text cycles r after h p = go (leb (length text) m) refl

@@ -1,4 +1,7 @@
 -- Laws of the questions asked of an irq2 file's lines. Assumes nothing.
+use Rattle.std.specs.Prelude.{Some, None}
+use Rattle.std.specs.List.{AllPass}
+use Rattle.std.proofs.lemmas.List.Elements.{All-nil, All-cons}
 use Prim.Native.Nat.{ℕ, zero, suc, ◌+◌, ◌-◌, ◌^◌, ◌≤◌, ◌<◌}
 use mathlib.Core.Path.{◌≡◌, refl, sym, ◌∙◌, ap}
 use mathlib.Core.Bool.{true, false, cond, ◌&&◌}
@@ -6,20 +9,19 @@ use mathlib.Core.List.{List, [], ◌∷◌, map}
 use native.Mathlib.Nat.{add-zero, le_trans, pow-le-pow_right}
 use native.Mathlib.Omega.{arith}
 use native.Mathlib.Numerals.{add-one}
-use lib.ListN.{length, get_or, take, drop, set, drop_of_length-le}
+use lib.ListN.{length, get_or, take, drop, set, drop_of_length-le, length-drop}
 use lib.Seq.{drop-drop, get_or-drop}
 use lib.Dec.{ltb, leb, leb-zero}
-use borrow.Author.Tests.{lt-ltb, le-ltb, le-leb, lt-leb, ltb-true, leb-true}
+use borrow.Author.Tests.{lt-ltb, le-ltb, le-leb, lt-leb, leb-true}
 use Rattle.text.specs.declared.Outcome.{Outcome}
 use Rattle.text.specs.Questions.{accepted, refused, first_no, first_bad}
-use Rattle.text.specs.declared.Numeral.TheVariants.{Value, NoNumeral}
 use Rattle.text.specs.Numerals.{all_digits, value, numeral}
 use Rattle.text.specs.Lines.{lines, first_line}
 use Rattle.text.specs.Place.{put}
 use Rattle.text.proofs.Truth.{and_left, and_right}
 use Rattle.text.proofs.DigitLaws.{number_yes, number_no, number-value}
 use Rattle.text.proofs.QuestionLaws.{first_yes}
-use Rattle.text.proofs.LineLaws.{lines_at_lem}
+use Rattle.text.proofs.LineLaws.{first_le, lines-first, lines_at_lem}
 use Rattle.files.specs.Sizes.{cycle_limit}
 use Rattle.files.specs.Irq2File.{is_cycle, line_cycle, rises_after, rising, irq2_outcome, file_cycles, is_above, cycle_questions}
 
@@ -30,25 +32,19 @@ pub few-fit : (n : ℕ) → n ≤ 13 → 10 ^ n ≤ 2 ^ 64
 few-fit n h = le_trans (pow-le-pow_right {n = 10} (omega arith) h) (omega arith)
 
 module _ (l : List ℕ) (some : 1 ≤ length l) (few : length l ≤ 13) where
-  pub cycle_no : numeral 10 l ≡ NoNumeral → NoNumeral ≡ line_cycle l
+  pub cycle_no : numeral 10 l ≡ None → None ≡ line_cycle l
   cycle_no e = rw (le-leb 1 (length l) some, le-leb (length l) 13 few, number_no (all_digits 10 l) (value 10 l) e)
 
-  module _ (v : ℕ) (e : numeral 10 l ≡ Value v) where
-    pub cycle_yes : v < cycle_limit → Value v ≡ line_cycle l
+  module _ (v : ℕ) (e : numeral 10 l ≡ Some v) where
+    pub cycle_yes : v < cycle_limit → Some v ≡ line_cycle l
     cycle_yes h =
         let is = number-value (all_digits 10 l) (value 10 l) v e in
         rw (le-leb 1 (length l) some, le-leb (length l) 13 few, number_yes (all_digits 10 l) (value 10 l) v e, ← is, lt-ltb v cycle_limit h)
 
-    pub cycle-over : cycle_limit ≤ v → NoNumeral ≡ line_cycle l
+    pub cycle-over : cycle_limit ≤ v → None ≡ line_cycle l
     cycle-over h =
         let is = number-value (all_digits 10 l) (value 10 l) v e in
         rw (le-leb 1 (length l) some, le-leb (length l) 13 few, number_yes (all_digits 10 l) (value 10 l) v e, ← is, le-ltb v cycle_limit h)
-
-pub cycle_below : (l : List ℕ) (v : ℕ) → line_cycle l ≡ Value v → v < cycle_limit
-cycle_below l v e =
-    let good = number_yes (is_cycle l) (value 10 l) v e in
-    let is = number-value (is_cycle l) (value 10 l) v e in
-    rw is (ltb-true (value 10 l) cycle_limit (and_right (leb 1 (length l) && leb (length l) 13 && all_digits 10 l) (ltb (value 10 l) cycle_limit) good))
 
 -- The digits of a cycle, which are few.
 module _ (l : List ℕ) (e : is_cycle l ≡ true) where
@@ -84,9 +80,6 @@ module _ (all : List (List ℕ)) (i : ℕ) (l : List ℕ) (ls : List (List ℕ))
   pub least_next : value 10 l + 1 ≡ least_after all (i + 1)
   unfolding least_after
   least_next = rw (add-one, add-one, line-is)
-
-  pub count_next : i + 1 + length ls ≡ i + length (l ∷ ls)
-  count_next = omega arith
 
 -- The lines of `text` from `at` on, i lines before them; the first of them ends at e.
 module _ (room : ℕ) (text : List ℕ) (at i e : ℕ) (h : at < length text) (q : e ≡ at + length (first_line (drop at text))) (t : Outcome) where
@@ -124,35 +117,66 @@ module _ (room : ℕ) (text : List ℕ) (at i : ℕ) (h : length text ≤ at) wh
 
 -- ---- a good file
 
-module _ (room : ℕ) (text : List ℕ) (at i e n : ℕ) (h : at < length text) (q : e ≡ at + length (first_line (drop at text)))
-    (good : (first_bad (cycle_questions room (lines text)) i (lines (drop at text)) (accepted n)).number ≡ 0) where
-  answers : (ltb i room ≡ true) × (is_cycle (take (e - at) (drop at text)) ≡ true)
-      × ((first_bad (cycle_questions room (lines text)) (i + 1) (lines (drop (e + 1) text)) (accepted n)).number ≡ 0)
-  answers =
-      let line = take (e - at) (drop at text) in
-      let asked = rw (here room text at i e h q (accepted n)) at good in
-      let left = first_yes 10 (i + 1) (ltb i room) _ (omega arith) asked in
-      let cycle = first_yes 11 (i + 1) (is_cycle line) _ (omega arith) left.1 in
-      (left.0, cycle.0, (first_yes 12 (i + 1) (is_above (lines text) i line) _ (omega arith) cycle.1).1)
+-- Each of its lines is a cycle.
+good_cycles : (room n : ℕ) (all : List (List ℕ)) (i : ℕ) (ls : List (List ℕ)) → (first_bad (cycle_questions room all) i ls (accepted n)).number ≡ 0 → AllPass is_cycle ls
+unfolding first_bad
+good_cycles room n all i [] good = All-nil (λ l. is_cycle l ≡ true)
+good_cycles room n all i (l ∷ ls) good =
+    let left = first_yes 10 (i + 1) (ltb i room) _ (omega arith) good in
+    let cycle = first_yes 11 (i + 1) (is_cycle l) _ (omega arith) left.1 in
+    let above = first_yes 12 (i + 1) (is_above all i l) _ (omega arith) cycle.1 in
+    All-cons (λ l. is_cycle l ≡ true) l ls cycle.0 (good_cycles room n all (i + 1) ls above.1)
 
-  pub cycle-room : i < room
-  cycle-room = ltb-true i room answers.0
+pub irq2-cycles : (room : ℕ) (text : List ℕ) → (irq2_outcome room text).number ≡ 0 → AllPass is_cycle (lines text)
+unfolding irq2_outcome
+irq2-cycles room text good = good_cycles room (length (lines text)) (lines text) 0 (lines text) good
 
-  pub cycle-form : (all_digits 10 (take (e - at) (drop at text)) ≡ true) × (10 ^ length (take (e - at) (drop at text)) ≤ 2 ^ 64)
-  cycle-form = cycle-digits (take (e - at) (drop at text)) answers.1
-
-  pub cycle-next : (first_bad (cycle_questions room (lines text)) (i + 1) (lines (drop (e + 1) text)) (accepted n)).number ≡ 0
-  cycle-next = answers.2
-
-  -- The cycle of this line is stored: what is left are those of the lines after it.
-  pub cycle_turn : (m : List ℕ) (v : ℕ) → v ≡ value 10 (take (e - at) (drop at text))
-      → put (set m i v) (i + 1) (map (value 10) (lines (drop (e + 1) text))) ≡ put m i (map (value 10) (lines (drop at text)))
-  unfolding put
-  cycle_turn m v r = rw (r, lines_at_lem text at e h q, add-one)
+-- The cycle of this line, which ends at e, is stored: what is left are those of the lines after it.
+pub cycle_turn : (text : List ℕ) (at i e : ℕ) → at < length text → e ≡ at + length (first_line (drop at text)) → (m : List ℕ) (v : ℕ) → v ≡ value 10 (take (e - at) (drop at text))
+    → put (set m i v) (i + 1) (map (value 10) (lines (drop (e + 1) text))) ≡ put m i (map (value 10) (lines (drop at text)))
+unfolding put
+cycle_turn text at i e h q m v r = rw (r, lines_at_lem text at e h q, add-one)
 
 pub cycles-end : (text m : List ℕ) (at i : ℕ) → length text ≤ at → m ≡ put m i (map (value 10) (lines (drop at text)))
 unfolding put lines
 cycles-end text m at i h = rw (drop_of_length-le text h)
+
+-- The cycles of the first i lines are set; of the text the lines from the place `at` on are left.
+pub record CyclesSet (text before cycles : List ℕ) (at i : ℕ) : Type 0 where
+  pub done : put cycles i (map (value 10) (lines (drop at text))) ≡ put before 0 (file_cycles text)
+  pub left : lines (drop at text) ≡ drop i (lines text)
+  pub inside : at ≤ length text + 1
+
+module _ {text before cycles : List ℕ} {at i : ℕ} (l : CyclesSet text before cycles at i) where
+  module _ (h : at < length text) where
+    pub set-room : i < length (lines text)
+    set-room =
+        let more : length (lines (drop at text)) ≡ suc (length (lines (drop (suc (length (first_line (drop at text)))) (drop at text))))
+        = ap length (lines-first (drop at text) (rw length-drop (omega arith))) in
+        let left : length (lines (drop at text)) ≡ length (lines text) - i = rw (l.left, length-drop) in
+        omega arith
+
+    module _ (e : ℕ) (q : e ≡ at + length (first_line (drop at text))) where
+      split : take (e - at) (drop at text) ∷ lines (drop (e + 1) text) ≡ drop i (lines text)
+      split = sym (lines_at_lem text at e h q) ∙ l.left
+
+      -- The next line is a cycle, whose digits can be read, ..
+      pub set-form : AllPass is_cycle (lines text) → (all_digits 10 (take (e - at) (drop at text)) ≡ true) × (10 ^ length (take (e - at) (drop at text)) ≤ 2 ^ 64)
+      set-form good = cycle-digits (take (e - at) (drop at text)) (rw (line-is (lines text) i _ _ split) at (good i [] set-room))
+
+      -- .. and is set.
+      pub set-turn : {v : ℕ} → v ≡ value 10 (take (e - at) (drop at text)) → CyclesSet text before (set cycles i v) (e + 1) (i + 1)
+      set-turn {v} r =
+          let within = first_le (drop at text) in
+          record {
+            done = cycle_turn text at i e h q cycles v r ∙ l.done;
+            left = next-is (lines text) i _ _ split;
+            inside = omega (arith, length-drop at text);
+          }
+
+  -- No line is left.
+  pub set-end : length text ≤ at → cycles ≡ put before 0 (file_cycles text)
+  set-end h = cycles-end text cycles at i h ∙ l.done
 
 -- The cycles of a good file rise.
 rises_from : (room : ℕ) (t : Outcome) (all : List (List ℕ)) (j : ℕ) (ls : List (List ℕ)) → ls ≡ drop (suc j) all

@@ -1,5 +1,7 @@
 -- Laws that belong to no one function, and the theorem of the return trip.
+pub mod CellLaws
 pub mod CheckLaws
+pub mod ChunkLaws
 pub mod FillLaws
 pub mod PutLaws
 pub mod SizeLaws

@@ -2,7 +2,7 @@
 use Prim.Native.Nat.{ℕ, zero, suc, ◌+◌, ◌-◌, ◌*◌, ◌≤◌, ◌<◌}
 use mathlib.Core.Path.{◌≡◌, refl, sym, ◌∙◌, ap}
 use mathlib.Core.List.{List, [], ◌∷◌, ◌++◌, append_assoc}
-use native.Mathlib.Nat.{add-zero, zero-mul, one-mul, suc-mul, add-mul, mul-le-mul_right, sub-zero, zero-sub}
+use native.Mathlib.Nat.{zero-mul, one-mul, suc-mul, add-mul, sub-zero, zero-sub}
 use native.Mathlib.Omega.{arith}
 use lib.ListN.{length, take, drop, set, get_or, length-append, length-drop, drop_of_length-le, take-append-drop}
 use lib.Seq.{drop-cons, drop-drop, take-take, take-nil, length-take-le}
@@ -47,17 +47,7 @@ pub record Putting (k : ℕ) (ws before : List ℕ) (at : ℕ) (out : List ℕ) 
   pub place : p ≡ at + i * (k + 1)
   pub done : i ≤ length ws
 
-pub put-start : {k : ℕ} {ws before : List ℕ} {at : ℕ} → Putting k ws before at before at 0
-put-start {k} {ws} {before} {at} = record { rest = refl; size = refl; place = rw (zero-mul, add-zero); done = omega arith }
-
 module _ {k : ℕ} {ws before : List ℕ} {at : ℕ} {out : List ℕ} {p i : ℕ} (l : Putting k ws before at out p i) where
-  -- Where all words have room, the next n have.
-  pub put-room : (n : ℕ) → i + n ≤ length ws → at + length ws * (k + 1) ≤ length before → p + n * (k + 1) ≤ length out
-  put-room n h room =
-      let most : (i + n) * (k + 1) ≤ length ws * (k + 1) = mul-le-mul_right (k + 1) h in
-      let sum = add-mul i n (k + 1) in
-      omega (arith, l.size, l.place)
-
   -- The next n words were put at once.
   pub put_more_lem : (n : ℕ) {after : List ℕ} {to : ℕ} → i + n ≤ length ws → after ≡ put out p (file_text k (take n (drop i ws))) → to ≡ p + n * (k + 1)
       → Putting k ws before at after to (i + n)
@@ -113,11 +103,6 @@ pub record PuttingSectors (disk : List ℕ) (first sectors : ℕ) (before text :
   pub words : Putting 8 (sectors_of disk first sectors) before 0 text at (128 * (s - first))
   pub low : first ≤ s
   pub high : s ≤ first + sectors
-
-pub sector-start : {disk : List ℕ} {first sectors : ℕ} {before : List ℕ} → PuttingSectors disk first sectors before before 0 first
-sector-start {disk} {first} {sectors} {before} =
-    let none : 128 * (first - first) ≡ 0 = omega arith in
-    record { words = rw none put-start; low = omega arith; high = omega arith }
 
 module _ {disk : List ℕ} {first sectors s : ℕ} {before text : List ℕ} {at : ℕ} (l : PuttingSectors disk first sectors before text at s)
     (inside : 128 * (first + sectors) ≤ length disk) where

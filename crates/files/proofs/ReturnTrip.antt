@@ -2,6 +2,7 @@
 -- there is room, and reading the text into any slice of that length, whatever it held, succeeds and gives the memory back; of an image, the same
 -- image, with zeros above bit 47. In the statements w is what the writer answered and `sent` the slice that it was lent, after the call; r is what
 -- the reader answered and `after` the memory that it was lent, after the call. Assumes nothing.
+use Rattle.std.specs.Prelude.{Result, Ok}
 use Prim.Native.Nat.{ℕ, zero, suc, ◌+◌, ◌-◌, ◌*◌, ◌%◌, ◌^◌, ◌≤◌}
 use mathlib.Core.Path.{◌≡◌, refl, sym, ◌∙◌, ap}
 use mathlib.Core.Bool.{Bool, true}
@@ -26,8 +27,8 @@ use Rattle.text.proofs.RangeLaws.{below_append, below_zeros, below_part, below_m
 use Rattle.files.proofs.FillLaws.{word_lt}
 use Rattle.files.proofs.PutLaws.{length-text}
 use Rattle.files.proofs.SizeLaws.{part-words, part-within, length_part, length_sectors, is-part}
-use Rattle.files.specs.declared.FileRead.{FileRead}
-use Rattle.files.specs.declared.Written.{Written}
+use Rattle.files.specs.declared.FileError.{FileError}
+use Rattle.files.specs.declared.WriteError.{WriteError}
 use Rattle.files.specs.Sizes.{image_words, data_words, frame_bytes, sector_words, image_digits, word_digits, frame_digits, is_image_length, is_data_length, is_frame_length, is_part_length, is_disk_part}
 use Rattle.files.specs.MemoryFile.{is_word, word_questions, lines_outcome, read_outcome, write_outcome, file_words, file_text, sectors_of, low48, SameImage}
 use Rattle.files.specs.Answers.{file_read_outcome, written_outcome}
@@ -61,7 +62,7 @@ module _ (file : List ℕ) where
   text-written is_right room right fits = rw (right, le-leb (length file) room fits)
 
   -- .. the text stands at the front, and what stood after it still does.
-  pub writing : (is_right : Bool) (out : List ℕ) (w : Written) (sent : List ℕ) → is_right ≡ true → length file ≤ length out → TextWritten is_right file out w sent
+  pub writing : (is_right : Bool) (out : List ℕ) (w : Result ℕ WriteError) (sent : List ℕ) → is_right ≡ true → length file ≤ length out → TextWritten is_right file out w sent
       → (written_outcome w ≡ accepted (length file)) × (take (length file) sent ≡ file) × (drop (length file) sent ≡ drop (length file) out)
   writing is_right out w sent right room p =
       let outcome = text-written is_right (length out) right room in
@@ -90,7 +91,7 @@ module _ (k : ℕ) (m : List ℕ) where
       rw (text-lines k m, written_values k m, none, append-nil)
 
   -- .. whatever the slice held.
-  pub reading : (is_right : ℕ → Bool) (d : List ℕ) (r : FileRead) (after : List ℕ) → is_right (length d) ≡ true → length d ≡ length m
+  pub reading : (is_right : ℕ → Bool) (d : List ℕ) (r : Result (Unit {0}) FileError) (after : List ℕ) → is_right (length d) ≡ true → length d ≡ length m
       → MemoryRead k is_right (file_text k m) d r after
       → (file_read_outcome r ≡ accepted 0) × (after ≡ map (λ word. word % 16 ^ k) m)
   reading is_right d r after right size p =
@@ -98,7 +99,7 @@ module _ (k : ℕ) (m : List ℕ) where
       (p.answer ∙ outcome, rw outcome at p.words ∙ all_words (length d) size)
 
   -- Both: the text that was written is read.
-  pub return_trip : (is_right : Bool) (is_right' : ℕ → Bool) (out d : List ℕ) (w : Written) (sent : List ℕ) (r : FileRead) (after : List ℕ)
+  pub return_trip : (is_right : Bool) (is_right' : ℕ → Bool) (out d : List ℕ) (w : Result ℕ WriteError) (sent : List ℕ) (r : Result (Unit {0}) FileError) (after : List ℕ)
       → is_right ≡ true → is_right' (length d) ≡ true → length (file_text k m) ≤ length out → length d ≡ length m
       → TextWritten is_right (file_text k m) out w sent
       → MemoryRead k is_right' (take (length (file_text k m)) sent) d r after
@@ -111,7 +112,7 @@ module _ (k : ℕ) (m : List ℕ) where
 -- ---- the four memories
 
 -- A memory of n words, written whole and read.
-module _ (k n : ℕ) (m out d : List ℕ) (w : Written) (sent : List ℕ) (r : FileRead) (after : List ℕ)
+module _ (k n : ℕ) (m out d : List ℕ) (w : Result ℕ WriteError) (sent : List ℕ) (r : Result (Unit {0}) FileError) (after : List ℕ)
     (size : length m ≡ n) (room : n * (k + 1) ≤ length out) (size' : length d ≡ n)
     (p : TextWritten (eqb (length m) n) (file_text k m) out w sent) (q : MemoryRead k (λ x. eqb x n) (take (n * (k + 1)) sent) d r after) where
   memory_returns : (written_outcome w ≡ accepted (n * (k + 1))) × (file_read_outcome r ≡ accepted 0) × (after ≡ map (λ word. word % 16 ^ k) m)
@@ -125,7 +126,7 @@ module _ (k n : ℕ) (m out d : List ℕ) (w : Written) (sent : List ℕ) (r : F
   words_return : Below (16 ^ k) m → (written_outcome w ≡ accepted (n * (k + 1))) × (file_read_outcome r ≡ accepted 0) × (after ≡ m)
   words_return below = let trip = memory_returns in (trip.0, trip.1, trip.2 ∙ below_mod (16 ^ k) m below)
 
-pub image_returns : (image out d : List ℕ) (w : Written) (sent : List ℕ) (r : FileRead) (after : List ℕ)
+pub image_returns : (image out d : List ℕ) (w : Result ℕ WriteError) (sent : List ℕ) (r : Result (Unit {0}) FileError) (after : List ℕ)
     → length image ≡ image_words → 53248 ≤ length out → length d ≡ image_words
     → TextWritten (is_image_length (length image)) (file_text image_digits image) out w sent
     → MemoryRead image_digits is_image_length (take 53248 sent) d r after
@@ -152,7 +153,7 @@ good-words_below k room i (l ∷ ls) t good (suc n) =
     let left = first_yes 10 (i + 1) (ltb i room) _ (omega arith) good in
     good-words_below k room (i + 1) ls t (first_yes 9 (i + 1) (is_word k l) _ (omega arith) left.1).1 n
 
-pub high_bits-read-zero : (text image : List ℕ) (after : List ℕ) → MemoryRead image_digits is_image_length text image FileRead.Filled after → Below (2 ^ 48) after
+pub high_bits-read-zero : (text image : List ℕ) (after : List ℕ) → MemoryRead image_digits is_image_length text image (Ok tt) after → Below (2 ^ 48) after
 unfolding read_outcome lines_outcome file_words
 high_bits-read-zero text image after p =
     let outcome = ap (λ (t : Outcome). t.number) (sym p.answer) in
@@ -162,14 +163,14 @@ high_bits-read-zero text image after p =
     good-lines : (text : List ℕ) → (read_outcome image_digits is_image_length (length image) text).number ≡ 0 → Below (2 ^ 48) (map (value 16) (lines text))
     good-lines text outcome = good-words_below 12 (length image) 0 (lines text) (accepted 0) (first_yes 1 0 (is_image_length (length image)) _ (omega arith) outcome).1
 
-pub data_returns : (memory out d : List ℕ) (w : Written) (sent : List ℕ) (r : FileRead) (after : List ℕ)
+pub data_returns : (memory out d : List ℕ) (w : Result ℕ WriteError) (sent : List ℕ) (r : Result (Unit {0}) FileError) (after : List ℕ)
     → length memory ≡ data_words → Below (2 ^ 32) memory → 36864 ≤ length out → length d ≡ data_words
     → TextWritten (is_data_length (length memory)) (file_text word_digits memory) out w sent
     → MemoryRead word_digits is_data_length (take 36864 sent) d r after
     → (written_outcome w ≡ accepted 36864) × (file_read_outcome r ≡ accepted 0) × (after ≡ memory)
 data_returns memory out d w sent r after size below room size' p q = words_return 8 4096 memory out d w sent r after size room size' p q below
 
-pub frame_returns : (frame out d : List ℕ) (w : Written) (sent : List ℕ) (r : FileRead) (after : List ℕ)
+pub frame_returns : (frame out d : List ℕ) (w : Result ℕ WriteError) (sent : List ℕ) (r : Result (Unit {0}) FileError) (after : List ℕ)
     → length frame ≡ frame_bytes → Below (2 ^ 8) frame → 196608 ≤ length out → length d ≡ frame_bytes
     → TextWritten (is_frame_length (length frame)) (file_text frame_digits frame) out w sent
     → MemoryRead frame_digits is_frame_length (take 196608 sent) d r after
@@ -177,7 +178,7 @@ pub frame_returns : (frame out d : List ℕ) (w : Written) (sent : List ℕ) (r 
 frame_returns frame out d w sent r after size below room size' p q = words_return 2 65536 frame out d w sent r after size room size' p q below
 
 -- A part of the disk, read into a part of as many sectors.
-pub disk_returns : (disk out d : List ℕ) (first sectors : ℕ) (w : Written) (sent : List ℕ) (r : FileRead) (after : List ℕ)
+pub disk_returns : (disk out d : List ℕ) (first sectors : ℕ) (w : Result ℕ WriteError) (sent : List ℕ) (r : Result (Unit {0}) FileError) (after : List ℕ)
     → is_disk_part (length disk) first sectors ≡ true → Below (2 ^ 32) disk → 1152 * sectors ≤ length out → length d ≡ sector_words * sectors
     → TextWritten (is_disk_part (length disk) first sectors) (file_text word_digits (sectors_of disk first sectors)) out w sent
     → MemoryRead word_digits is_part_length (take (1152 * sectors) sent) d r after

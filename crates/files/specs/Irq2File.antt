@@ -1,8 +1,6 @@
 -- "The irq2 file: one cycle a line, decimal, 1 to 13 digits, below 2^40-1, strictly rising; its reader returns their count and doesn't
 -- touch places after them."
-use Rattle.std.specs.Prelude.{ℕ, zero, suc, Bool, true, cond, ◌&&◌, List, [], ◌∷◌, map, ltb, leb, length, get_or}
-use Rattle.text.specs.declared.Numeral.{Numeral}
-use Rattle.text.specs.declared.Numeral.TheVariants.{Value, NoNumeral}
+use Rattle.std.specs.Prelude.{ℕ, zero, suc, Bool, true, cond, ◌&&◌, List, [], ◌∷◌, map, ltb, leb, length, get_or, Option, Some, None}
 use Rattle.text.specs.declared.Outcome.{Outcome}
 use Rattle.text.specs.Questions.{Question, accepted, first_bad}
 use Rattle.text.specs.Numerals.{all_digits, value}
@@ -14,8 +12,8 @@ abbrev pub is_cycle : List ℕ → Bool
 is_cycle l = leb 1 (length l) && leb (length l) cycle_digits && all_digits 10 l && ltb (value 10 l) cycle_limit
 
 -- The cycle that a line is, if it is one (for the code).
-abbrev pub line_cycle : List ℕ → Numeral
-line_cycle l = cond (is_cycle l) (Value (value 10 l)) NoNumeral
+abbrev pub line_cycle : List ℕ → Option ℕ
+line_cycle l = cond (is_cycle l) (Some (value 10 l)) None
 
 -- "strictly rising", of a list of cycles: each is above the one before.
 unfoldable pub rises_after : ℕ → List ℕ → Bool

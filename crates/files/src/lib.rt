@@ -3,6 +3,7 @@
 #![tactic(auto)]
 
 mod answers;
+mod cell;
 mod check;
 mod fill;
 mod irq2;
@@ -11,17 +12,16 @@ mod read;
 mod sizes;
 mod write;
 
+pub use cell::Cell;
 pub use irq2::read_irq2;
 pub use put::put_words;
 pub use read::{read_data, read_disk, read_frame, read_image};
 pub use sizes::{DATA_WORDS, DISK_WORDS, WORD_DIGITS};
 pub use write::{write_data, write_disk, write_frame, write_image};
 
-// What reading a memory file answers. Places are lines, from 1.
+// Why a memory file is refused. Places are lines, from 1.
 #[derive(Clone, Copy)]
-pub enum FileRead {
-    // Every word of the memory is set.
-    Filled,
+pub enum FileError {
     // The lent memory has not the length that it should have.
     WrongLength,
     // No word is left for this line.
@@ -30,11 +30,9 @@ pub enum FileRead {
     BadDigits(usize),
 }
 
-// What reading an irq2 file answers. Places are lines, from 1.
+// Why an irq2 file is refused. Places are lines, from 1.
 #[derive(Clone, Copy)]
-pub enum CyclesRead {
-    // So many cycles stand at the front of the lent slice.
-    Cycles(usize),
+pub enum CycleError {
     // No word is left for this line.
     NoWord(usize),
     // This line is no cycle: not 1 to 13 decimal digits, or not below the limit.
@@ -43,11 +41,9 @@ pub enum CyclesRead {
     NotRising(usize),
 }
 
-// What writing a memory file answers.
+// Why a memory is not written.
 #[derive(Clone, Copy)]
-pub enum Written {
-    // So many bytes of text stand at the front of the lent slice.
-    Bytes(usize),
+pub enum WriteError {
     // The lent memory has not its length, or the disk has no such part: no sector at all, or one past its end.
     WrongLength,
     // The lent slice is shorter than the text.

@@ -1,4 +1,5 @@
 // The lengths of the memories and of their files, and which parts of the disk can be read and written.
+// Stays (2): the sizes of document 01, of which other crates speak by their own definitions.
 ghost use Rattle.std.specs.Prelude.{◌≡◌};
 ghost use Rattle.files.specs.Sizes.{is_part_length, is_disk_part};
 
@@ -22,21 +23,8 @@ pub const WORD_DIGITS: usize = 8;
 
 pub const FRAME_DIGITS: usize = 2;
 
-// Bytes of a line: the digits and an LF.
-pub const IMAGE_LINE: usize = IMAGE_DIGITS + 1;
-
-pub const WORD_LINE: usize = WORD_DIGITS + 1;
-
-pub const FRAME_LINE: usize = FRAME_DIGITS + 1;
-
-// Bytes of a whole file.
-pub const IMAGE_TEXT: usize = IMAGE_WORDS * IMAGE_LINE;
-
-pub const DATA_TEXT: usize = DATA_WORDS * WORD_LINE;
-
-pub const FRAME_TEXT: usize = FRAME_BYTES * FRAME_LINE;
-
-pub const SECTOR_TEXT: usize = SECTOR_WORDS * WORD_LINE;
+// Bytes of a sector's text: its words, each with an LF.
+pub const SECTOR_TEXT: usize = SECTOR_WORDS * (WORD_DIGITS + 1);
 
 // The cycle limit: cycles of the irq2 file lie below it.
 pub const CYCLE_LIMIT: u64 = 0xFF_FFFF_FFFF;

@@ -1,7 +1,9 @@
 -- A HEX file is read as well from its front: the most bytes that are read and one more decide. Assumes nothing.
 use Prim.Native.Nat.{ℕ, ◌≤◌, ◌<◌}
 use mathlib.Core.Path.{◌≡◌, refl, sym, ◌∙◌, ap}
-use mathlib.Core.Bool.{Bool, true, false}
+use mathlib.Core.Bool.{Bool, true, false, cond}
+use Rattle.std.specs.Prelude.{Some, None, Result}
+use Rattle.memories.specs.Cycles.{outcome_count}
 use mathlib.Core.List.{List}
 use native.Mathlib.Omega.{arith}
 use lib.Dec.{eqb}
@@ -9,7 +11,7 @@ use lib.ListN.{length, take, replicate, length-take, length-replicate}
 use lib.Seq.{length-take-le}
 use borrow.Author.Tests.{le-leb, lt-leb}
 use Rattle.text.specs.declared.Outcome.{Outcome}
-use Rattle.intel_hex.specs.declared.HexRead.{HexRead}
+use Rattle.intel_hex.specs.declared.HexError.{HexError}
 use Rattle.intel_hex.specs.Reading.{hex_outcome}
 use Rattle.intel_hex.specs.Answers.{hex_read_outcome}
 use Rattle.intel_hex.specs.Promises.{HexFileRead}
@@ -30,7 +32,7 @@ module _ (buffer : List ℕ) (n : ℕ) (fits : n ≤ length buffer) {before : Li
       record { is = rw (lt-leb (length whole) most_bytes long); words = refl }
 
   -- One of no more is read whole, where the buffer has room for one byte more, ..
-  pub front_read : {after : List ℕ} {h : HexRead} {r : Bool} → n ≤ most_bytes → most_bytes < length buffer
+  front_read : {after : List ℕ} {h : Result (Unit {0}) HexError} {r : Bool} → n ≤ most_bytes → most_bytes < length buffer
       → HexFileRead (length before) (take n buffer) before h after → r ≡ eqb (hex_read_outcome h).number 0 → HexFront buffer n r before after
   front_read {after} {h} {r} few room read says whole front =
       by_front (λ (s : List ℕ). HexTextRead s r before after) buffer n whole front
@@ -42,6 +44,23 @@ module _ (buffer : List ℕ) (n : ℕ) (fits : n ≤ length buffer) {before : Li
 
       is : r ≡ eqb (hex_outcome (length before) (length before) (take n buffer)).number 0
       is = says ∙ ap (λ (t : Outcome). eqb t.number 0) read.answer
+
+  -- what `accept_at` answers of the outcome deciding, ..
+  module _ {after : List ℕ} {h : Result (Unit {0}) HexError} {t : Outcome} (few : n ≤ most_bytes) (room : most_bytes < length buffer)
+      (read : HexFileRead (length before) (take n buffer) before h after) (says : t ≡ hex_read_outcome h) where
+    pub front_accepted : (k : ℕ) → Some k ≡ outcome_count t → HexFront buffer n true before after
+    front_accepted k count = front_read few room read (go (eqb (hex_read_outcome h).number 0) (rw says at count))
+      where
+        go : (b : Bool) → Some k ≡ cond b (Some (hex_read_outcome h).count) None → true ≡ b
+        go true e = refl
+        go false e = cc
+
+    pub front_refused : None ≡ outcome_count t → HexFront buffer n false before after
+    front_refused count = front_read few room read (go (eqb (hex_read_outcome h).number 0) (rw says at count))
+      where
+        go : (b : Bool) → None ≡ cond b (Some (hex_read_outcome h).count) None → false ≡ b
+        go true e = cc
+        go false e = refl
 
   -- .. and need not be named.
   pub loaded : (r : Bool) {after : List ℕ} → HexFront buffer n r before after → Loaded r before after

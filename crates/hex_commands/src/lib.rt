@@ -17,6 +17,4 @@ pub enum Conversion {
     HexToDisk,
     DataToHex,
     DiskToHex,
-    // Nothing: the words are unknown.
-    Unknown,
 }

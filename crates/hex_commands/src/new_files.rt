@@ -1,4 +1,5 @@
 // Memories written as new HEX files, beside the old ones.
+// Stays (2): two functions of two lines, which differ in writer and room; handing both in would be no plainer.
 ghost use Rattle.std.specs.Prelude.{length};
 ghost use Rattle.files.specs.Sizes.{is_data_length, is_disk_length};
 ghost use Rattle.memories.specs.NewFiles.{NewWritten};
@@ -8,7 +9,7 @@ use hex_files::{DATA_HEX, DISK_HEX, write_hex_data, write_hex_disk};
 use memories::write_new_text;
 
 // Writes the data memory as a new HEX file, under the name that an argument gives.
-pub fn write_new_hex_data(rt: HostRuntime, i: usize, memory: &[u32]) -> Writing
+pub fn write_new_hex_data(rt: HostRuntime, i: usize, memory: &[u32]) -> Option<Writing>
     ensures { NewWritten (is_data_length (length memory.now)) result }
 {
     let mut text = [0u8; DATA_HEX];
@@ -16,7 +17,7 @@ pub fn write_new_hex_data(rt: HostRuntime, i: usize, memory: &[u32]) -> Writing
 }
 
 // Writes the disk in the same way.
-pub fn write_new_hex_disk(rt: HostRuntime, i: usize, disk: &[u32]) -> Writing
+pub fn write_new_hex_disk(rt: HostRuntime, i: usize, disk: &[u32]) -> Option<Writing>
     ensures { NewWritten (is_disk_length (length disk.now)) result }
 {
     let mut text = [0u8; DISK_HEX];

@@ -1,4 +1,5 @@
 -- Laws of Intel HEX, the theorem of the return trip, and those of texts that read the same.
+pub mod ChunkLaws
 pub mod PairLaws
 pub mod RecordLaws
 pub mod FoundLaws

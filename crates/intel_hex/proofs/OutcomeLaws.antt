@@ -1,5 +1,5 @@
 -- What the records of a text tell, record after record. Assumes nothing.
-use Prim.Native.Nat.{ℕ, ◌+◌, ◌≤◌, ◌<◌}
+use Prim.Native.Nat.{ℕ, ◌+◌}
 use mathlib.Core.Path.{◌≡◌, refl, sym, ◌∙◌, ap}
 use mathlib.Core.Bool.{Bool, true, false, cond, not, ◌&&◌, ◌||◌, false≢true}
 use mathlib.Core.List.{List, [], ◌∷◌, ◌++◌, append-nil}
@@ -7,12 +7,10 @@ use native.Mathlib.Omega.{arith}
 use lib.ListN.{length, take, length-append}
 use lib.Seq.{append_snoc, take-append_seam}
 use lib.Dec.{eqb}
-use borrow.Author.Tests.{eq-eqb, ne_eqb, le-leb, lt-leb, not-true, not-false}
+use borrow.Author.Tests.{eq-eqb, ne_eqb}
 use Rattle.text.specs.declared.Outcome.{Outcome}
 use Rattle.text.specs.Questions.{accepted, refused, first_no, first_bad}
 use Rattle.text.proofs.Truth.{and_right}
-use Rattle.intel_hex.specs.declared.record.Found.{Found}
-use Rattle.intel_hex.specs.Steps.{found_outcome}
 use Rattle.intel_hex.specs.Record.{line_bytes, data_count, address, kind, is_record}
 use Rattle.intel_hex.specs.Reading.{is_end, is_right_end, is_read_type, is_placed, record_questions, free_after, free_after_all, line_questions, has_end, records_outcome}
 
@@ -102,26 +100,3 @@ module _ (room : ℕ) (all : List (List ℕ)) where
 pub told_is : (room : ℕ) (ls : List (List ℕ)) → records_outcome room ls ≡ told room 0 0 ls
 unfolding records_outcome free_after_all has_end
 told_is room ls = told-from room ls [] ls refl refl
-
--- ---- the questions as the code asks them, of what was found on a line
-
-module _ (room free : ℕ) (is_last : Bool) (f : Found) (line : ℕ) where
-  abbrev is_right : Bool
-  is_right = f.good && is_right_end is_last f.kind f.count
-
-  abbrev placed : Bool
-  placed = is_placed room free f.address f.count
-
-  pub no_record : not is_right ≡ true → refused 17 line ≡ found_outcome room free is_last f line
-  no_record e = rw (not-true is_right e)
-
-  module _ (right : not is_right ≡ false) where
-    pub other_type : 1 < f.kind → refused 18 line ≡ found_outcome room free is_last f line
-    other_type h = rw (not-false is_right right, lt-leb f.kind 1 h)
-
-    module _ (h : f.kind ≤ 1) where
-      pub not_placed : not placed ≡ true → refused 19 line ≡ found_outcome room free is_last f line
-      not_placed e = rw (not-false is_right right, le-leb f.kind 1 h, not-true placed e)
-
-      pub all_right : not placed ≡ false → accepted 0 ≡ found_outcome room free is_last f line
-      all_right e = rw (not-false is_right right, le-leb f.kind 1 h, not-false placed e)

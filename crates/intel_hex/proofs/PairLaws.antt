@@ -4,10 +4,11 @@ use Prim.Native.Char.{Char, code}
 use mathlib.Core.Path.{◌≡◌, refl, sym, ◌∙◌, ap}
 use mathlib.Core.Bool.{Bool, true, false, cond, ◌&&◌, and_assoc, and-true}
 use mathlib.Core.List.{List, [], ◌∷◌, ◌++◌, map}
+use native.Mathlib.Nat.{add-zero}
 use native.Mathlib.Omega.{arith}
 use native.Mathlib.Numerals.{add-one}
-use lib.ListN.{length, get_or, drop, set, drop_of_length-le}
-use lib.Seq.{drop-cons}
+use lib.ListN.{length, get_or, take, drop, set, drop_of_length-le}
+use lib.Seq.{drop-cons, get_or-take, get_or-drop}
 use lib.Dec.{leb, ltb}
 use borrow.Author.Tests.{leb-true, ltb-true}
 use Rattle.text.specs.Numerals.{digit_value, is_between, all_digits}
@@ -56,6 +57,13 @@ module _ (s : List ℕ) (i : ℕ) (h : i + 2 ≤ length s) where
   pub values_first : pair_values (drop i s) ≡ pair_value s i ∷ pair_values (drop (i + 2) s)
   unfolding pair_values
   values_first = rw (two_first s i h)
+
+-- A pair that is lent.
+pub pair-part : (s x : List ℕ) (i : ℕ) → x ≡ take 2 (drop i s) → (is_pair x 0 ≡ is_pair s i) × (pair_value x 0 ≡ pair_value s i)
+pair-part s x i e =
+    let first : get_or x 0 0 ≡ get_or s i 0 = rw (e, get_or-take 2 (drop i s) 0 0 (omega arith), get_or-drop i s 0 0, add-zero) in
+    let second : get_or x 1 0 ≡ get_or s (i + 1) 0 = rw (e, get_or-take 2 (drop i s) 1 0 (omega arith), get_or-drop i s 1 0) in
+    (rw (first, second), rw (first, second))
 
 -- ---- pair after pair
 

@@ -3,7 +3,7 @@ use Prim.Native.Nat.{ℕ, zero, suc, ◌+◌, ◌-◌, ◌*◌, ◌/◌, ◌%◌
 use Prim.Native.Char.{code}
 use mathlib.Core.Path.{◌≡◌, refl, sym, ◌∙◌, ap}
 use mathlib.Core.List.{List, [], ◌∷◌, ◌++◌, append_assoc, append-nil}
-use native.Mathlib.Nat.{div-div-eq-div-mul, div-add-mod', mod-eq_of_lt}
+use native.Mathlib.Nat.{div-div-eq-div-mul, mod-eq_of_lt}
 use native.Mathlib.Omega.{arith}
 use native.Mathlib.Numerals.{add-one}
 use lib.ListN.{length, get_or, take, drop, set, length-append, length-drop, drop_of_length-le, take-append-drop}
@@ -233,10 +233,3 @@ length-lines (suc n) at bs h =
 pub length-text : (ws : List ℕ) → length ws % 4 ≡ 0 → length (hex_text ws) ≡ 11 * length ws + 12
 unfolding hex_text
 length-text ws h = length-lines (length ws / 4) 0 (memory_bytes ws) (length-bytes ws ∙ omega arith) ∙ omega arith
-
--- Where a word is left, four are.
-pub four_left : (i n : ℕ) → i % 4 ≡ 0 → n % 4 ≡ 0 → i < n → i + 4 ≤ n
-four_left i n p q h =
-    let a : i / 4 * 4 + i % 4 ≡ i = div-add-mod' i 4 in
-    let b : n / 4 * 4 + n % 4 ≡ n = div-add-mod' n 4 in
-    omega arith

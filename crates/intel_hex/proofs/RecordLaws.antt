@@ -1,4 +1,5 @@
 -- Laws of one record: what its bytes say, and the line on which it stands. Assumes nothing.
+use Rattle.std.specs.Prelude.{Option, Some, None}
 use Prim.Native.Nat.{ℕ, suc, ◌+◌, ◌-◌, ◌*◌, ◌%◌, ◌≤◌, ◌<◌}
 use Prim.Native.Char.{code}
 use mathlib.Core.Path.{◌≡◌, refl, sym, ◌∙◌, ap}
@@ -218,7 +219,7 @@ module _ (s : List ℕ) (good : is_record (first_record s) ≡ true) where
   pub record Stands : Type 0 where
     pub fits : record_stop s ≤ length s
     pub is_front : first_record s ≡ take (record_stop s) s
-    pub ends : record_end s (record_stop s) ≡ length (first_line s)
+    pub ends : record_end s (record_stop s) ≡ Some (length (first_line s))
 
   -- Of any front that it is.
   stop_is : (n : ℕ) → n ≤ length s → first_record s ≡ take n s → n ≡ record_stop s
@@ -236,7 +237,7 @@ module _ (s : List ℕ) (good : is_record (first_record s) ≡ true) where
           let fits = first_le s in
           let n = stop_is (line_length s) fits e in
           let end : ends_line s (record_stop s) ≡ true = rw (← n) (first_ends s) in
-          record { fits = rw (← n) fits; is_front = rw (← n) e; ends = rw end (sym n) }
+          record { fits = rw (← n) fits; is_front = rw (← n) e; ends = rw end (ap Some (sym n)) }
       go (inr e) =
           let fits = first_le s in
           let n = stop_is (line_length s - 1) (omega arith) e.2 in
@@ -244,17 +245,17 @@ module _ (s : List ℕ) (good : is_record (first_record s) ≡ true) where
           let cr : get_or s (record_stop s) 0 ≡ CR = rw (← n) e.1 in
           let inside : ltb (record_stop s) (length s) ≡ true = lt-ltb (record_stop s) (length s) (omega arith) in
           let after : ends_line s (record_stop s + 1) ≡ true = rw next (first_ends s) in
-          record { fits = omega arith; is_front = rw (← n) e.2; ends = rw (inside, cr, after) next }
+          record { fits = omega arith; is_front = rw (← n) e.2; ends = rw (inside, cr, after) (ap Some next) }
 
 -- The other way round: a front that is a record, where its line ends right after it, stands on the first line.
 module _ (s : List ℕ) (n : ℕ) (fits : n ≤ length s) (good : is_record (take n s) ≡ true) where
   abbrev OnLine : Type 0
-  OnLine = (first_record s ≡ take n s) × (record_end s n ≡ length (first_line s))
+  OnLine = (first_record s ≡ take n s) × (record_end s n ≡ Some (length (first_line s)))
 
   at_once : ends_line s n ≡ true → OnLine
   at_once end =
       let line = first-is n s fits (record_no_lf (take n s) good) end in
-      (ap without_cr line ∙ record_no_cr (take n s) good, rw (end, line) (sym (length-take-le n s fits)))
+      (ap without_cr line ∙ record_no_cr (take n s) good, rw (end, line) (ap Some (sym (length-take-le n s fits))))
 
   after_cr : ends_line s n ≡ false → get_or s n 0 ≡ CR → ends_line s (n + 1) ≡ true → OnLine
   unfolding NoLF without_cr
@@ -265,29 +266,14 @@ module _ (s : List ℕ) (n : ℕ) (fits : n ≤ length s) (good : is_record (tak
       let size : length (take (n + 1) s) ≡ n + 1 = length-take-le (n + 1) s (omega arith) in
       let last : n + 1 - 1 ≡ n = omega arith in
       let here : get_or (take (n + 1) s) n 0 ≡ CR = get_or-take (n + 1) s n 0 (omega arith) ∙ cr in
-      (ap without_cr line ∙ rw (size, last, here, take-take n (n + 1) s (omega arith)), rw (more, cr, end, line) (sym size))
+      (ap without_cr line ∙ rw (size, last, here, take-take n (n + 1) s (omega arith)), rw (more, cr, end, line) (ap Some (sym size)))
 
-  pub on_line : (record_end s n ≡ 0 → ⊥) → OnLine
+  pub on_line : (record_end s n ≡ None → ⊥) → OnLine
   on_line some = go (ends_line s n) refl (eqb (get_or s n 0) CR) refl (ends_line s (n + 1)) refl some
     where
       go : (t : Bool) → ends_line s n ≡ t → (u : Bool) → eqb (get_or s n 0) CR ≡ u → (v : Bool) → ends_line s (n + 1) ≡ v
-          → (◌≡◌ {A = ℕ} (cond t n (cond (u && v) (n + 1) 0)) 0 → ⊥) → OnLine
+          → (◌≡◌ {A = Option ℕ} (cond t (Some n) (cond (u && v) (Some (n + 1)) None)) None → ⊥) → OnLine
       go true e u f v g some = at_once e
       go false e true f true g some = after_cr e (eqb-true _ _ f) g
       go false e true f false g some = absurd (some refl)
       go false e false f v g some = absurd (some refl)
-
--- The lines that the code's tests of the place after a record tell apart.
-module _ (s : List ℕ) (n : ℕ) where
-  pub ends_at : ends_line s n ≡ true → n ≡ record_end s n
-  ends_at e = rw e
-
-  module _ (more : ends_line s n ≡ false) where
-    pub no_cr_there : (get_or s n 0 ≡ CR → ⊥) → 0 ≡ record_end s n
-    no_cr_there e = rw (more, ne_eqb (get_or s n 0) CR e)
-
-    pub ends-after : get_or s n 0 ≡ CR → ends_line s (n + 1) ≡ true → n + 1 ≡ record_end s n
-    ends-after e f = rw (more, e, f)
-
-    pub ends_nowhere : get_or s n 0 ≡ CR → ends_line s (n + 1) ≡ false → 0 ≡ record_end s n
-    ends_nowhere e f = rw (more, e, f)

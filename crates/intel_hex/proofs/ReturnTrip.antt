@@ -1,5 +1,6 @@
 -- The return trip: "A written image reads back the same, for the data memory and for the 64 KiB disk, shown once over the length." In the statements m is
 -- any memory of a multiple of 4 words, at most 16,384 of them. Assumes nothing.
+use Rattle.std.specs.Prelude.{Result}
 use Prim.Native.Nat.{ℕ, zero, suc, ◌+◌, ◌*◌, ◌/◌, ◌%◌, ◌^◌, ◌≤◌, ◌<◌}
 use mathlib.Core.Path.{◌≡◌, refl, sym, ◌∙◌, ap}
 use mathlib.Core.Bool.{false}
@@ -18,7 +19,7 @@ use Rattle.text.proofs.PutLaws.{put_nil, put-append, put_all}
 use Rattle.text.proofs.RangeLaws.{below_append, below_part}
 use Rattle.text.proofs.LineLaws.{NoneLF, lines-unlines}
 use Rattle.intel_hex.specs.Words.{first_word, words_of, word_bytes, memory_bytes}
-use Rattle.intel_hex.specs.declared.HexRead.{HexRead}
+use Rattle.intel_hex.specs.declared.HexError.{HexError}
 use Rattle.intel_hex.specs.Record.{pair_values, total, line_bytes, address, data_bytes, is_record}
 use Rattle.intel_hex.specs.Reading.{without_cr, record_lines, records_outcome, hex_outcome, put_records, hex_words}
 use Rattle.intel_hex.specs.Writing.{byte_pairs, data_record, record_line, data_lines, end_line, hex_text}
@@ -170,7 +171,7 @@ module _ (m : List ℕ) (fours : length m % 4 ≡ 0) (within : 4 * length m ≤ 
   text-read words n size size' = let same : n ≡ length m = size ∙ sym size' in rw (eq-eqb n words size, same) lines-good
 
   -- .. and reading it gives the memory back, whatever the memory lent, d, held.
-  pub reading : Below (2 ^ 32) m → (words : ℕ) (d : List ℕ) (r : HexRead) (after : List ℕ) → length d ≡ words → length m ≡ words
+  pub reading : Below (2 ^ 32) m → (words : ℕ) (d : List ℕ) (r : Result (Unit {0}) HexError) (after : List ℕ) → length d ≡ words → length m ≡ words
       → HexFileRead words (hex_text m) d r after
       → (hex_read_outcome r ≡ accepted 0) × (after ≡ m)
   reading small words d r after size size' p =
@@ -179,5 +180,5 @@ module _ (m : List ℕ) (fours : length m % 4 ≡ 0) (within : 4 * length m ≤ 
       (p.answer ∙ good, rw good at p.words ∙ rw same (words-read small))
 
 -- A refused text changes no word.
-pub refused-keeps : (size : ℕ) (text d : List ℕ) (r : HexRead) (after : List ℕ) → HexFileRead size text d r after → eqb (hex_read_outcome r).number 0 ≡ false → after ≡ d
+pub refused-keeps : (size : ℕ) (text d : List ℕ) (r : Result (Unit {0}) HexError) (after : List ℕ) → HexFileRead size text d r after → eqb (hex_read_outcome r).number 0 ≡ false → after ≡ d
 refused-keeps size text d r after p e = p.words ∙ rw (← p.answer, e)

@@ -1,35 +1,20 @@
-// What the reader's answer tells.
-ghost use Rattle.std.specs.Prelude.{◌≡◌, eqb};
-ghost use Rattle.intel_hex.specs.Answers.{hex_read_outcome};
+// What each refusal of the reader tells.
+// Stays (2, 4): each error enum says its own number once, by the trait `Refusal`.
+ghost use Rattle.intel_hex.specs.Answers.{hex_refusal};
 
-use crate::HexRead;
+use crate::HexError;
 use text::Outcome;
-use text::outcomes::{accepted, refused};
+use text::outcomes::{Refusal, refused};
 
-impl HexRead {
-    // The outcome of reading a text.
-    pub fn outcome(self) -> Outcome
-        ensures { result ≡ hex_read_outcome self }
-    {
-        match self {
-            HexRead::Filled => accepted(0),
-            HexRead::WrongLength => refused(1, 0),
-            HexRead::BadRecord(line) => refused(17, line),
-            HexRead::BadType(line) => refused(18, line),
-            HexRead::BadAddress(line) => refused(19, line),
-        }
-    }
+impl Refusal for HexError {
+    ghost refusal = { hex_refusal };
 
-    // Whether nothing was refused.
-    pub fn is_filled(self) -> bool
-        ensures { result ≡ eqb (hex_read_outcome self).number 0 }
-    {
+    fn outcome(self) -> Outcome {
         match self {
-            HexRead::Filled => true,
-            HexRead::WrongLength => false,
-            HexRead::BadRecord(_) => false,
-            HexRead::BadType(_) => false,
-            HexRead::BadAddress(_) => false,
+            HexError::WrongLength => refused(1, 0),
+            HexError::BadRecord(line) => refused(17, line),
+            HexError::BadType(line) => refused(18, line),
+            HexError::BadAddress(line) => refused(19, line),
         }
     }
 }

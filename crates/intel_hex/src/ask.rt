@@ -1,30 +1,38 @@
 // The questions asked of a record.
-ghost use Rattle.std.specs.Prelude.{◌≡◌, cond, ◌+◌, ◌≤◌, eqb};
+ghost use Rattle.std.specs.Prelude.{◌≡◌, cond, ◌+◌, ◌≤◌, eqb, Some};
 ghost use Rattle.intel_hex.specs.Answers.{hex_read_outcome};
 ghost use Rattle.intel_hex.specs.Steps.{byte_limit, found_outcome};
 
-use crate::HexRead;
-use crate::record::Found;
+use crate::HexError;
+use crate::record::{Found, Kind};
 
-// Asks the questions of what was found on a line, where a memory has `room` bytes and `free` is the address after the last byte named before.
-pub fn ask(found: Found, room: usize, free: usize, is_last: bool, line: usize) -> HexRead
+// Asks the questions of the record on a line, where a memory has `room` bytes and `free` is the address after the last byte named before.
+pub fn ask(
+    found: Found,
+    room: usize,
+    free: usize,
+    is_last: bool,
+    line: usize,
+) -> Result<(), HexError>
     requires { found.address + found.count ≤ byte_limit }
-    ensures { hex_read_outcome result ≡ found_outcome room free is_last found line }
+    ensures { hex_read_outcome result ≡ found_outcome room free is_last (Some found) line }
 {
-    if !(found.good & ((found.kind != 1) | ((found.count == 0) & is_last))) {
-        return HexRead::BadRecord(line);
+    match found.kind {
+        Kind::Data => {}
+        Kind::End => {
+            if found.count != 0 || !is_last {
+                return Err(HexError::BadRecord(line));
+            }
+        }
+        Kind::Other => return Err(HexError::BadType(line)),
     }
-    if 1 < found.kind {
-        return HexRead::BadType(line);
+    if found.count != 0 && (found.address < free || room < found.address + found.count) {
+        return Err(HexError::BadAddress(line));
     }
-    let placed = (free <= found.address) & (found.address + found.count <= room);
-    if !((found.count == 0) | placed) {
-        return HexRead::BadAddress(line);
-    }
-    HexRead::Filled
+    Ok(())
 }
 
-// The address after the last byte named, once what was found has been read.
+// The address after the last byte named, once the record has been read.
 pub fn free_after(found: Found, free: usize) -> usize
     requires { found.address + found.count ≤ byte_limit }
     ensures { result ≡ cond (eqb found.count 0) free (found.address + found.count) }

@@ -1,7 +1,8 @@
 // The words of a memory from its bytes.
+// Stays (2, 4, 5): a word is made of four bytes of an array of fixed size (no heap), which every record's bytes are put into.
+ghost use Rattle.std.specs.Prelude.{◌≡◌, ◌+◌, ◌*◌, ◌≤◌, length, drop};
 ghost use Rattle.intel_hex.specs.Words.{first_word, words_of};
 ghost use Rattle.intel_hex.specs.Steps.{byte_limit};
-ghost use Rattle.std.specs.Prelude.{◌≡◌, ◌+◌, ◌*◌, ◌≤◌, length, drop};
 
 use crate::record::BYTES;
 
@@ -10,10 +11,8 @@ pub fn fill_memory(bytes: &[u8; BYTES], memory: &mut [u32])
     requires { length bytes.now ≡ byte_limit }
     ensures { memory.new ≡ words_of (length memory.old) bytes.now }
 {
-    let mut i = 0;
-    while i < memory.len() {
-        memory[i] = word(bytes, i);
-        i += 1;
+    for (i, place) in memory.iter_mut().enumerate() {
+        *place = word(bytes, i);
     }
 }
 
@@ -34,13 +33,5 @@ fn word_at(bytes: &[u8; BYTES], at: usize) -> u32
     requires { (length bytes.now ≡ byte_limit) × (at + 4 ≤ byte_limit) }
     ensures { result ≡ first_word (drop at bytes.now) }
 {
-    ((wide(bytes[at]) * 256 + wide(bytes[at + 1])) * 256 + wide(bytes[at + 2])) * 256
-        + wide(bytes[at + 3])
-}
-
-// A byte in a word's width.
-fn wide(x: u8) -> u32
-    ensures { (result ≡ x) × (result ≤ 255) }
-{
-    x as u32
+    u32::from_be_bytes([bytes[at], bytes[at + 1], bytes[at + 2], bytes[at + 3]])
 }

@@ -13,11 +13,9 @@ mod record;
 pub use put::put_hex_text;
 pub use read::read_hex;
 
-// What reading a text answers. Places are lines, from 1.
+// Why a text is refused. Places are lines, from 1.
 #[derive(Clone, Copy)]
-pub enum HexRead {
-    // The text is good: every word of the memory is set.
-    Filled,
+pub enum HexError {
     // The lent memory has not the length that it should have.
     WrongLength,
     // This line is no record, or an end record with data or with text after it.

@@ -6,10 +6,12 @@ use mathlib.Core.List.{List, [], ◌∷◌}
 use native.Mathlib.Nat.{not-suc-le-zero, le_of_suc-le-suc}
 use native.Mathlib.Omega.{arith}
 use native.Mathlib.Numerals.{add-one}
-use lib.ListN.{length, get_or, drop, drop_of_length-le}
-use lib.Seq.{drop-cons}
+use lib.ListN.{length, get_or}
 use lib.Dec.{eqb, ltb}
-use borrow.Author.Tests.{lt-ltb, le-ltb, eq-eqb, ne_eqb, eqb-true, eqb-false, ltb-true, ltb-false}
+use Rattle.std.specs.List.{IsAllAdjacentAnswer}
+use Rattle.std.specs.List.Sorted.{IsPartitionedBy, IsPartitionPoint}
+use Rattle.std.proofs.lemmas.List.{get_or_default}
+use borrow.Author.Tests.{lt-ltb, eq-eqb, ne_eqb, eqb-true, eqb-false, ltb-true, ltb-false}
 use Rattle.text.proofs.Truth.{and_left, and_right}
 use Rattle.files.specs.Irq2File.{rises_after, rising}
 use Rattle.machine.specs.Interrupts.{is_in}
@@ -124,50 +126,48 @@ rises (x ∷ l) e i zero h k = absurd (not-suc-le-zero h)
 rises (x ∷ l) e zero (suc j) h k = above x l e j (le_of_suc-le-suc k)
 rises (x ∷ l) e (suc i) (suc j) h k = rises_after_lem x l e i j (le_of_suc-le-suc h) (le_of_suc-le-suc k)
 
--- ---- asking whether a list rises, one cycle after the other
+-- ---- asking whether a list rises, of each cycle and the next
 
--- The first i cycles rise: whether the list does is left to those after them.
-pub record Scanned (l : List ℕ) (i : ℕ) : Type 0 where
-  pub some : 1 ≤ i
-  pub within : 1 ≤ length l → i ≤ length l
-  pub is : i ≤ length l → rising l ≡ rises_after (get_or l (i - 1) 0) (drop i l)
+-- It does where each cycle is below the next, ..
+rises_on : (c : ℕ) (l : List ℕ) → ((k : ℕ) → k < length l → get_or (c ∷ l) k 0 < get_or (c ∷ l) (suc k) 0) → rises_after c l ≡ true
+unfolding rises_after
+rises_on c [] each = refl
+rises_on c (x ∷ l) each =
+    let first : ltb c x ≡ true = lt-ltb c x (each 0 (omega arith)) in
+    rw (first, rises_on x l (λ k h. each (suc k) (suc-le-suc h)))
 
-pub scan_begun : (l : List ℕ) → Scanned l 1
+pub rises_where : (l : List ℕ) → ((k : ℕ) → k + 1 < length l → get_or l k 0 < get_or l (k + 1) 0) → rising l ≡ true
 unfolding rising
-scan_begun [] = record { some = omega arith; within = λ h. h; is = λ h. absurd (not-suc-le-zero h) }
-scan_begun (x ∷ l) = record { some = omega arith; within = λ h. h; is = λ h. refl }
+rises_where [] each = refl
+rises_where (c ∷ l) each = rises_on c l (λ k h. rw add-one at (each k (omega arith)))
 
-module _ {l : List ℕ} {i : ℕ} (s : Scanned l i) where
-  next_rises : i < length l → rising l ≡ (ltb (get_or l (i - 1) 0) (get_or l i 0) && rises_after (get_or l i 0) (drop (i + 1) l))
-  unfolding rises_after
-  next_rises h =
-      s.is (omega arith)
-      ∙ ap (rises_after (get_or l (i - 1) 0)) (drop-cons l i 0 h ∙ ap (λ (k : ℕ). get_or l i 0 ∷ drop k l) (sym (add-one i)))
+-- .. and not where one is not.
+pub rises_not : (l : List ℕ) (k : ℕ) → k + 1 < length l → (get_or l k 0 < get_or l (k + 1) 0 → ⊥) → rising l ≡ false
+rises_not l k h never = go (rising l) refl
+  where
+    go : (t : Bool) → rising l ≡ t → t ≡ false
+    go true e = absurd (never (rises l e k (k + 1) (omega arith) h))
+    go false e = refl
 
-  pub scan_turned : i < length l → get_or l (i - 1) 0 < get_or l i 0 → Scanned l (i + 1)
-  scan_turned h less =
-      let here : i + 1 - 1 ≡ i = omega arith in
-      record {
-        some = omega arith;
-        within = λ k. omega arith;
-        is = λ k. next_rises h ∙ rw (lt-ltb (get_or l (i - 1) 0) (get_or l i 0) less, here);
-      }
+-- What a test of each cycle and the next answers.
+pub rising-answer : (l : List ℕ) (r : Bool) → IsAllAdjacentAnswer (λ x y b. b ≡ ltb x y) l r → r ≡ rising l
+rising-answer l true all = sym (rises_where l (λ k h. ltb-true _ _ (sym (all k 0 h))))
+rising-answer l false some = sym (rises_not l some.0 some.1 (λ less. false≢true (some.2 0 ∙ lt-ltb _ _ less)))
 
-  pub scan_failed : i < length l → get_or l i 0 ≤ get_or l (i - 1) 0 → false ≡ rising l
-  scan_failed h no_more = sym (next_rises h ∙ rw (le-ltb (get_or l (i - 1) 0) (get_or l i 0) no_more))
+-- In a list that rises, no cycle below c comes after one that is not.
+pub parted : (c : ℕ) (l : List ℕ) → Rises l → IsPartitionedBy (λ x. ltb x c) l
+parted c l up i j d low inside e = go (ltb i j) refl
+  where
+    go : (t : Bool) → ltb i j ≡ t → ltb (get_or l i d) c ≡ true
+    go true less =
+        let first : get_or l i d ≡ get_or l i 0 = get_or_default l i d 0 (let h = ltb-true i j less in omega arith) in
+        let second : get_or l j d ≡ get_or l j 0 = get_or_default l j d 0 inside in
+        let above = up i j (ltb-true i j less) inside in
+        let below = ltb-true (get_or l j d) c e in
+        lt-ltb (get_or l i d) c (omega arith)
+    go false same = let here : i ≡ j = let h = ltb-false i j same in omega arith in rw here e
 
-  pub scan_finished : length l ≤ i → true ≡ rising l
-  unfolding rising rises_after
-  scan_finished h = go l refl
-    where
-      go : (m : List ℕ) → l ≡ m → true ≡ rising l
-      go [] e = rw e
-      go (x ∷ m) e =
-          let size : 1 ≤ length l = rw e (omega arith) in
-          let end : i ≡ length l = let w = s.within size in omega arith in
-          sym (s.is (omega arith) ∙ ap (rises_after (get_or l (i - 1) 0)) (drop_of_length-le l h))
-
--- ---- finding a place by halving
+-- ---- finding a place, by halves or otherwise
 
 -- The place of c lies from low to high.
 pub record Between (c low high : ℕ) (l : List ℕ) : Type 0 where
@@ -175,10 +175,6 @@ pub record Between (c low high : ℕ) (l : List ℕ) : Type 0 where
   pub within : high ≤ length l
   pub before : (i : ℕ) → i < low → get_or l i 0 < c
   pub after : (i : ℕ) → high ≤ i → i < length l → c ≤ get_or l i 0
-
-pub between_begun : (c : ℕ) (l : List ℕ) → Between c 0 (length l) l
-between_begun c l =
-    record { order = zero-le; within = omega arith; before = λ i h. absurd (not-suc-le-zero h); after = λ i h k. absurd (omega arith) }
 
 module _ {c low high : ℕ} {l : List ℕ} (b : Between c low high l) (up : Rises l) where
   pub between_up : (m : ℕ) → low ≤ m → m < high → get_or l m 0 < c → Between c (m + 1) high l
@@ -205,6 +201,11 @@ between_found b h =
     let order = b.order in
     let size = b.within in
     record { within = omega arith; before = b.before; after = λ i j k. b.after i (omega arith) k }
+
+-- All below a place are below c, and none from it on.
+pub between-parted : (c p : ℕ) (l : List ℕ) → p ≤ length l → IsPartitionPoint (λ x. ltb x c ≡ true) (λ x. ltb x c ≡ false) l p → Between c p p l
+between-parted c p l within parts =
+    record { order = omega arith; within = within; before = λ i h. ltb-true _ _ (parts.0 i 0 zero-le h); after = λ i h k. ltb-false _ _ (parts.1 i 0 h k) }
 
 -- ---- what a run waits for
 

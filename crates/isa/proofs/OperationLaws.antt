@@ -3,7 +3,7 @@ use Rattle.std.proofs.Common.{◌≡◌, ℕ, zero, suc, ◌+◌, ◌-◌, ◌<�
 use lib.ListN.{get_or-eq_default}
 use Rattle.isa.specs.Operations.{Operation, calculate, branch, unknown, add, beq, calculations, comparisons, operations, operation_of, calculation_of, comparison_of}
 use Rattle.isa.specs.Accesses.{access_of}
-use Rattle.isa.specs.declared.Access.TheVariants.{Nothing}
+use Rattle.std.proofs.Common.{None}
 
 -- An operation of the family that stands first.
 of_family : {A : Type 0} (f : A → Operation) (l : List A) (r : List Operation) (n : ℕ) (e : A) → n < length l → get_or (map f l ++ r) n unknown ≡ f (get_or l n e)
@@ -25,11 +25,11 @@ comparison_at op low high =
     ∙ of_family branch comparisons (drop 15 operations) (op - 9) beq (omega arith)
 
 -- 15 to 18 do nothing with the I/O registers.
-pub nothing_at : (op : ℕ) → 15 ≤ op → op < 19 → access_of (operation_of op) ≡ Nothing
+pub nothing_at : (op : ℕ) → 15 ≤ op → op < 19 → access_of (operation_of op) ≡ None
 unfolding operation_of access_of
 nothing_at op low high = let from : op ≡ 15 + (op - 15) = omega arith in rw from (go (op - 15) (omega arith))
   where
-    go : (k : ℕ) → k < 4 → access_of (operation_of (15 + k)) ≡ Nothing
+    go : (k : ℕ) → k < 4 → access_of (operation_of (15 + k)) ≡ None
     go zero h = refl
     go (suc zero) h = refl
     go (suc (suc zero)) h = refl

@@ -1,4 +1,5 @@
 // The I/O registers: their numbers, which are listed, and how many bits each has.
+// Stays (1, 2, 4, 6, 7): a program computes a register's number, so any number is asked; two matches, since one is over 40 lines; the lengths are asked where no text is put.
 ghost use Rattle.std.specs.Prelude.{◌≡◌, ◌%◌, ◌^◌, ◌<◌, ◌≤◌, length};
 ghost use Rattle.isa.specs.Registers.{is_listed, io_bits, io_name};
 

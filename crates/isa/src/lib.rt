@@ -1,4 +1,5 @@
 // The 2023 instruction set: the instruction word's fields, the opcodes, and the I/O registers.
+// Stays (1): document 01's instruction word holds the opcode as a number, which decode and execute match.
 #![tactic(auto)]
 
 pub mod io;
@@ -17,11 +18,9 @@ pub struct Fields {
     pub imm2: u32,
 }
 
-// What an operation does with the I/O registers.
-#[derive(Drop)]
+// What an operation that uses the I/O registers does with one.
+#[derive(Clone, Copy)]
 pub enum Access {
-    // No register is read or written.
-    Nothing,
     // in reads one.
     Read,
     // out writes one.

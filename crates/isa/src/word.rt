@@ -1,4 +1,5 @@
 // The instruction word.
+// Stays (4, 5): `encode` has a precondition, which From has not, and `decode` stands beside it.
 ghost use Rattle.std.specs.Prelude.{◌≡◌, ◌^◌, ◌<◌};
 ghost use Rattle.isa.specs.Word.{fields_of, word_of, Fitting, sign_extended};
 
@@ -38,5 +39,5 @@ pub fn sign_extend(immediate: u32) -> u32
     requires { immediate < 2 ^ 12 }
     ensures { result ≡ sign_extended immediate }
 {
-    std::num::wrapping_sub_u32((immediate + 0x800) % 0x1000, 0x800)
+    ((immediate + 0x800) % 0x1000).wrapping_sub(0x800)
 }

@@ -1,9 +1,12 @@
 // The lab's commands, each by its word: `lab list IMEM`, `lab show RECORD`, `lab picture MONITOR PGM`, `lab hex read data HEX DMEM` and three more,
 // `lab resume IMEM .. LOG`. Without a word it prints what they are; with a word alone, how that command is used.
+// Stays (7): `lab hex` asks two words more than the other commands, before the names.
 #![tactic(auto)]
 
 mod command_words;
 mod help;
+
+ghost use Rattle.std.specs.Prelude.{◌≤◌};
 
 use crate::command_words::command_of;
 use crate::help::{
@@ -11,8 +14,8 @@ use crate::help::{
     print_show_help,
 };
 use commands::{draw_frame, list_file, show_record};
-use console::{NAME, are_names, argument, argument_count, open_missing_standard_streams};
-use hex_commands::{Conversion, conversion_at, convert};
+use console::{Name, are_names, argument_count, open_missing_standard_streams};
+use hex_commands::{conversion_at, convert};
 use run_commands::resume;
 
 // What a word names.
@@ -23,8 +26,6 @@ pub enum Command {
     Picture,
     Resume,
     Hex,
-    // None of the commands.
-    Unknown,
 }
 
 fn main(rt: HostRuntime) {
@@ -34,79 +35,66 @@ fn main(rt: HostRuntime) {
         print_overview(rt);
         return;
     }
-    match command_at(rt, 1) {
-        Command::List => list(rt, count),
-        Command::Show => show(rt, count),
-        Command::Picture => picture(rt, count),
-        Command::Resume => run_on(rt, count),
-        Command::Hex => hex(rt, count),
-        Command::Unknown => print_overview(rt),
+    match command_of(Name::of_argument(rt, 1).bytes()) {
+        Some(Command::List) => with_names(
+            rt,
+            count,
+            1,
+            || print_list_help(rt),
+            || list_file(rt, 2),
+        ),
+        Some(Command::Show) => with_names(
+            rt,
+            count,
+            1,
+            || print_show_help(rt),
+            || show_record(rt, 2),
+        ),
+        Some(Command::Picture) => with_names(
+            rt,
+            count,
+            2,
+            || print_picture_help(rt),
+            || draw_frame(rt, 2),
+        ),
+        Some(Command::Resume) => with_names(
+            rt,
+            count,
+            8,
+            || print_resume_help(rt),
+            || resume(rt, 2),
+        ),
+        Some(Command::Hex) => hex(rt, count),
+        None => print_overview(rt),
     }
 }
 
-// The command that an argument names.
-fn command_at(rt: HostRuntime, i: usize) -> Command {
-    let mut word = [0u8; NAME];
-    let n = argument(rt, i, &mut word);
-    command_of(&word[..n])
-}
-
-// lab list IMEM
-fn list(rt: HostRuntime, count: usize) {
-    if count != 3 {
-        print_list_help(rt);
-        return;
-    }
-    if are_names(rt, 2, 1) {
-        list_file(rt, 2);
-    }
-}
-
-// lab show RECORD
-fn show(rt: HostRuntime, count: usize) {
-    if count != 3 {
-        print_show_help(rt);
-        return;
-    }
-    if are_names(rt, 2, 1) {
-        show_record(rt, 2);
-    }
-}
-
-// lab picture MONITOR PGM
-fn picture(rt: HostRuntime, count: usize) {
-    if count != 4 {
-        print_picture_help(rt);
-        return;
-    }
-    if are_names(rt, 2, 2) {
-        draw_frame(rt, 2);
-    }
-}
-
-// lab resume IMEM DMEM DISK MONITOR RECORD IRQ2 CYCLES LOG
-fn run_on(rt: HostRuntime, count: usize) {
-    if count != 10 {
-        print_resume_help(rt);
-        return;
-    }
-    if are_names(rt, 2, 8) {
-        resume(rt, 2);
+// Runs a command whose arguments are so many names after its word; prints its help where there are more or fewer.
+fn with_names<H, C>(rt: HostRuntime, count: usize, names: usize, help: H, command: C)
+where
+    H: FnOnce(),
+    C: FnOnce(),
+    requires few { names ≤ 8 }
+    requires helps { H.IsAlwaysCallable help }
+    requires commands { C.IsAlwaysCallable command }
+{
+    if count != names + 2 {
+        help();
+    } else if are_names(rt, 2, names) {
+        command();
     }
 }
 
 // lab hex read data HEX DMEM, lab hex read disk HEX DISK, lab hex write data DMEM HEX, lab hex write disk DISK HEX
 fn hex(rt: HostRuntime, count: usize) {
-    if count != 6 {
+    let conversion = if count == 6 {
+        conversion_at(rt, 2)
+    } else {
+        None
+    };
+    if conversion.is_none() {
         print_hex_help(rt);
-        return;
-    }
-    let conversion = conversion_at(rt, 2);
-    if let Conversion::Unknown = conversion {
-        print_hex_help(rt);
-        return;
-    }
-    if are_names(rt, 4, 2) {
+    } else if are_names(rt, 4, 2) {
         convert(rt, conversion, 4);
     }
 }

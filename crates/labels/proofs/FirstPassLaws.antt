@@ -1,27 +1,28 @@
 -- The label of a line, and the first pass over the lines of a text. Assumes nothing.
 use Prim.Native.Nat.{ℕ, ◌+◌, ◌-◌, ◌*◌, ◌≤◌, ◌<◌}
 use mathlib.Core.Path.{◌≡◌, refl, sym, ◌∙◌, ap}
-use mathlib.Core.Bool.{Bool, true, false, cond, false≢true}
+use mathlib.Core.Bool.{Bool, true, false, cond}
 use mathlib.Core.List.{List, [], ◌∷◌, ◌++◌, append-nil, append_assoc}
 use native.Mathlib.Omega.{arith}
 use native.Mathlib.Nat.{zero-add}
 use lib.Dec.{ltb}
-use lib.ListN.{length, get_or, set, take, drop, length-set, drop_of_length-le, get_or-append}
+use lib.ListN.{length, get_or, set, take, drop, drop_of_length-le, get_or-append}
 use lib.Seq.{get_or_at, get_or-set_same, get_or-set_other}
 use borrow.Author.Tests.{ltb-true, ltb-false}
 use Rattle.text.specs.Lines.{lines, first_line}
 use Rattle.text.proofs.Truth.{and_left, and_right}
 use Rattle.text.proofs.LineLaws.{lines_at_lem}
-use Rattle.symbols.specs.Table.{names_of, entry_at}
-use Rattle.symbols.specs.Sound.{Empty}
+use Rattle.symbols.specs.Table.{names_of}
+use Rattle.symbols.specs.Sound.{Sound, Empty}
 use Rattle.symbols.proofs.NameLaws.{length-names}
 use Rattle.symbols.proofs.EmptyLaws.{empty_sound}
-use Rattle.lines.specs.declared.Form.{Form}
-use Rattle.lines.specs.Line.{form_of, is_right, has_label, has_code, label_of}
-use Rattle.lines.specs.Parts.{FirstFormed}
+use Rattle.lines.specs.Line.{form_of, is_right, label_of}
+use Rattle.lines.specs.declared.First.{First}
+use Rattle.lines.specs.First.{FirstFormed, tells_label, tells_code}
+use Rattle.lines.proofs.FirstLaws.{first_tells}
 use Rattle.labels.specs.Text.{code_count, labels, are_right, label_values}
 use Rattle.labels.specs.Limits.{most_labels}
-use Rattle.labels.specs.Tables.{LabelTable, LabelNoted, LabelsFound}
+use Rattle.labels.specs.Tables.{LabelTable, LabelNoted}
 use Rattle.labels.proofs.TextLaws.{labels_append, code-append, values_append, right-append, length_values}
 
 -- ---- the first pass
@@ -47,26 +48,17 @@ none_noted source table values e room =
       small = omega arith;
     }
 
--- All are.
-all_noted : {source table values : List ℕ} {p n m : ℕ} → Noting source table values p n m → length source ≤ p → LabelTable source (lines source) table values m
+-- Where the first pass has come to the end of the text, all are.
+pub all_found : {source table values : List ℕ} {p n m : ℕ} → Noting source table values p n m → length source ≤ p → LabelTable source (lines source) table values m
 unfolding lines
-all_noted {source} {table} {values} {p} {n} {m} d h =
+all_found {source} {table} {values} {p} {n} {m} d h =
     let whole : lines source ≡ d.done = d.split ∙ ap (λ (s : List ℕ). d.done ++ lines s) (drop_of_length-le source h) ∙ append-nil d.done in
     rw whole d.noted
 
--- What the first pass leaves where the table has no room for one more label, ..
-pub some_found : {source table values : List ℕ} {p n m : ℕ} → Noting source table values p n m → p < length source → length table < entry_at (m + 1) → LabelsFound source table values (record { labels = m; all = false })
-some_found d inside full =
-    let few = d.few in
-    record { all = λ e. absurd (false≢true e); full = λ e. omega arith }
-
--- .. and where it has come to the end of the text.
-pub all_found : {source table values : List ℕ} {p n m : ℕ} → Noting source table values p n m → length source ≤ p → LabelsFound source table values (record { labels = m; all = true })
-all_found d h = record { all = λ e. all_noted d h; full = λ e. absurd (false≢true (sym e)) }
-
 -- One line more.
-module _ {source table values : List ℕ} {p n m : ℕ} (d : Noting source table values p n m) (inside : p < length source) (e : ℕ) (is : e ≡ p + length (first_line (drop p source))) (places : List ℕ) (f : Form)
-    (first : FirstFormed (take (e - p) (drop p source)) places f) (r : ℕ) (table' values' : List ℕ) (note : LabelNoted source p e f table values n m r table' values') where
+module _ {source table values : List ℕ} {p n m : ℕ} (d : Noting source table values p n m) (inside : p < length source) (e : ℕ) (is : e ≡ p + length (first_line (drop p source))) (f : First)
+    (first : FirstFormed (take (e - p) (drop p source)) f) (r : ℕ) (table' values' : List ℕ) (sound : Sound source table' r) (size : length values' ≡ length values)
+    (note : LabelNoted source p e (tells_label f) table values n m r table' values') where
   abbrev line : List ℕ
   line = take (e - p) (drop p source)
 
@@ -84,48 +76,48 @@ module _ {source table values : List ℕ} {p n m : ℕ} (d : Noting source table
   unfolding are_right
   line-right r = and_left (is_right (form_of line)) true (and_right (are_right d.done) (are_right (line ∷ [])) (sym (right-append d.done (line ∷ [])) ∙ r))
 
-  next-code : (n' : ℕ) → n' ≡ cond (has_code f) (n + 1) n → are_right next ≡ true → n' ≡ code_count next
+  next-code : (n' : ℕ) → n' ≡ cond (tells_code f) (n + 1) n → are_right next ≡ true → n' ≡ code_count next
   unfolding code_count
   next-code n' q right =
       let before = d.code (done-right right) in
-      q ∙ count (has_code f) before ∙ ap (λ (b : Bool). code_count d.done + cond b 1 0) (first.code (line-right right)) ∙ sym (code-append d.done (line ∷ []))
+      q ∙ count (tells_code f) before ∙ ap (λ (b : Bool). code_count d.done + cond b 1 0) ((first_tells line f first).1 (line-right right)) ∙ sym (code-append d.done (line ∷ []))
     where
       count : (b : Bool) → n ≡ code_count d.done → cond b (n + 1) n ≡ code_count d.done + cond b 1 0
       count true x = omega arith
       count false x = omega arith
 
   -- Without a label, ..
-  module _ (no_label : has_label f ≡ false) where
+  module _ (no_label : tells_label f ≡ false) where
     same-labels : labels next ≡ labels d.done
     unfolding labels
-    same-labels = labels_append d.done (line ∷ []) ∙ rw (sym first.label ∙ no_label) (append-nil (labels d.done))
+    same-labels = labels_append d.done (line ∷ []) ∙ rw (sym (first_tells line f first).0 ∙ no_label) (append-nil (labels d.done))
 
     same_values : label_values 0 next ≡ label_values 0 d.done
     unfolding label_values
-    same_values = values_append 0 d.done (line ∷ []) ∙ rw (sym first.label ∙ no_label) (append-nil (label_values 0 d.done))
+    same_values = values_append 0 d.done (line ∷ []) ∙ rw (sym (first_tells line f first).0 ∙ no_label) (append-nil (label_values 0 d.done))
 
     plain_noted : LabelTable source next table' values' r
     plain_noted =
         let same = note.none no_label in
         rw (same.0, same.1, same.2)
         (record {
-          sound = d.noted.sound;
+          sound = rw (same.0, same.1) at sound;
           names = d.noted.names ∙ sym same-labels;
           room = d.noted.room;
           valued = λ right k h l. d.noted.valued (done-right right) k h l ∙ sym (ap (λ (x : List ℕ). get_or x k 0) same_values);
         })
 
   -- .. and with one.
-  module _ (label : has_label f ≡ true) where
+  module _ (label : tells_label f ≡ true) where
     more_labels : labels next ≡ labels d.done ++ (label_of line ∷ [])
     unfolding labels
-    more_labels = labels_append d.done (line ∷ []) ∙ rw (sym first.label ∙ label)
+    more_labels = labels_append d.done (line ∷ []) ∙ rw (sym (first_tells line f first).0 ∙ label)
 
     more_values : are_right next ≡ true → label_values 0 next ≡ label_values 0 d.done ++ (n ∷ [])
     unfolding label_values
     more_values right =
         let same : code_count d.done ≡ n = sym (d.code (done-right right)) in
-        values_append 0 d.done (line ∷ []) ∙ rw (sym first.label ∙ label, zero-add, same)
+        values_append 0 d.done (line ∷ []) ∙ rw (sym (first_tells line f first).0 ∙ label, zero-add, same)
 
     count : length (label_values 0 d.done) ≡ m
     count = length_values 0 d.done ∙ sym (ap length d.noted.names) ∙ length-names source table m
@@ -153,27 +145,27 @@ module _ {source table values : List ℕ} {p n m : ℕ} (d : Noting source table
         let one = note.some label in
         rw one.0
         (record {
-          sound = one.1;
-          names = one.2 ∙ ap (λ (x : List (List ℕ)). x ++ (label_of line ∷ [])) d.noted.names ∙ sym more_labels;
-          room = note.sizes.1 ∙ d.noted.room;
-          valued = λ right k h l. ap (λ (x : List ℕ). get_or x k 0) one.3 ∙ stored right k h l;
+          sound = rw one.0 at sound;
+          names = one.1 ∙ ap (λ (x : List (List ℕ)). x ++ (label_of line ∷ [])) d.noted.names ∙ sym more_labels;
+          room = size ∙ d.noted.room;
+          valued = λ right k h l. ap (λ (x : List ℕ). get_or x k 0) one.2 ∙ stored right k h l;
         })
 
-  pub one_noted : (n' : ℕ) → n' ≡ cond (has_code f) (n + 1) n → Noting source table' values' (e + 1) n' r
-  one_noted n' q = go (has_label f) refl
+  pub one_noted : (n' : ℕ) → n' ≡ cond (tells_code f) (n + 1) n → Noting source table' values' (e + 1) n' r
+  one_noted n' q = go (tells_label f) refl
     where
       less : n' ≤ p + 1
-      less = let small = d.small in at (has_code f) q
+      less = let small = d.small in at (tells_code f) q
         where
           at : (b : Bool) → n' ≡ cond b (n + 1) n → n' ≤ p + 1
           at true x = let small = d.small in omega arith
           at false x = let small = d.small in omega arith
 
-      go : (b : Bool) → has_label f ≡ b → Noting source table' values' (e + 1) n' r
+      go : (b : Bool) → tells_label f ≡ b → Noting source table' values' (e + 1) n' r
       go true x =
           let one = note.some x in
           let few = d.few in
-          let grown : p + 2 ≤ e = one.4 in
+          let grown : p + 2 ≤ e = one.3 in
           let count : r ≡ m + 1 = one.0 in
           let most = less in
           record { done = next; split = next_split; noted = label_noted x; code = next-code n' q; few = omega arith; small = omega arith }
@@ -182,8 +174,3 @@ module _ {source table values : List ℕ} {p n m : ℕ} (d : Noting source table
           let few = d.few in
           let most = less in
           record { done = next; split = next_split; noted = plain_noted x; code = next-code n' q; few = omega arith; small = omega arith }
-
--- A list in which at most one number is stored keeps its length.
-pub size_kept : (b : Bool) (l after : List ℕ) (i x : ℕ) → after ≡ cond b (set l i x) l → length after ≡ length l
-size_kept true l after i x e = ap length e ∙ length-set l i x
-size_kept false l after i x e = ap length e

@@ -8,6 +8,8 @@ use lib.Dec.{eqb}
 use lib.ListN.{length, get_or, take, drop, length-take, length-drop, take-append-drop}
 use lib.Seq.{length-take-le, take-take, take-append-le, drop-append-le, drop-drop}
 use Rattle.text.proofs.Truth.{and_right}
+use Rattle.source.specs.declared.Span.{Span}
+use Rattle.source.specs.Spans.{nowhere, Split}
 use Rattle.source.specs.Names.{is_name, defined, is_definition}
 use Rattle.lines.specs.declared.Form.{Form}
 use Rattle.lines.specs.declared.Form.TheVariants.{Nothing, Label, Code, Labelled, Word, Wrong}
@@ -45,11 +47,13 @@ pub record LabelIn (line : List ℕ) (a b : ℕ) : Type 0 where
   pub within : b ≤ length line
   pub is : take (b - 1 - a) (drop a line) ≡ label_of line
 
-pub label_in : {line places : List ℕ} {f : Form} → Formed line places f → has_label f ≡ true → LabelIn line (get_or places 0 0) (get_or places 1 0)
-label_in {line} {places} {f} formed e =
-    let p = formed.placed 0 (has_part f e) in
-    let a = get_or places 0 0 in
-    let b = get_or places 1 0 in
+pub label_in : {line : List ℕ} {spans : List Span} {n : ℕ} {f : Form} → Split line spans n → Formed line n f → has_label f ≡ true → LabelIn line (get_or spans 0 nowhere).start (get_or spans 0 nowhere).end
+label_in {line} {spans} {n} {f} split formed e =
+    let parts = formed.parts in
+    let some = has_part f e in
+    let p = split.placed 0 (omega arith) in
+    let a = (get_or spans 0 nowhere).start in
+    let b = (get_or spans 0 nowhere).end in
     let order = p.order in
     let within = p.within in
     let rest = length-drop a line in
@@ -82,20 +86,17 @@ pub record LabelOf (source : List ℕ) (p e a b : ℕ) : Type 0 where
   pub within : p + b ≤ e
   pub is : take (p + b - 1 - (p + a)) (drop (p + a) source) ≡ label_of (take (e - p) (drop p source))
 
-pub label_of_lem : {source places : List ℕ} {p e : ℕ} {f : Form} → p ≤ e → e ≤ length source → (has_label f ≡ true → Formed (take (e - p) (drop p source)) places f) → has_label f ≡ true → LabelOf source p e (get_or places 0 0) (get_or places 1 0)
-label_of_lem {source} {places} {p} {e} h w formed q =
-    let l = label_in (formed q) q in
-    let a = get_or places 0 0 in
-    let b = get_or places 1 0 in
-    let line = take (e - p) (drop p source) in
-    let size : length line ≡ e - p = length-take-le (e - p) (drop p source) (rw length-drop (omega arith)) in
+pub label_of_lem : {source line : List ℕ} {p e a b : ℕ} → p ≤ e → e ≤ length source → line ≡ take (e - p) (drop p source) → LabelIn line a b → LabelOf source p e a b
+label_of_lem {source} {line} {p} {e} {a} {b} h w is l =
+    let size : length line ≡ e - p = ap length is ∙ length-take-le (e - p) (drop p source) (rw length-drop (omega arith)) in
     let order = l.order in
     let within = l.within in
     let same : p + b - 1 - (p + a) ≡ b - 1 - a = omega arith in
+    let there = rw is at l.is in
     record {
       order = order;
       within = omega arith;
-      is = ap (λ (k : ℕ). take k (drop (p + a) source)) same ∙ sym (part_in_line source p e a (b - 1 - a) h w (omega arith)) ∙ l.is;
+      is = ap (λ (k : ℕ). take k (drop (p + a) source)) same ∙ sym (part_in_line source p e a (b - 1 - a) h w (omega arith)) ∙ there;
     }
 
 -- ---- its name

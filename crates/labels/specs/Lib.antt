@@ -2,3 +2,4 @@
 pub mod Text
 pub mod Limits
 pub mod Tables
+pub mod Found

@@ -1,11 +1,8 @@
 -- What the first pass knows of a text's labels (for the code).
-use Rattle.std.specs.Prelude.{ℕ, ◌+◌, ◌-◌, ◌/◌, ◌≤◌, ◌<◌, ◌≡◌, true, false, cond, List, [], ◌∷◌, ◌++◌, ltb, length, get_or, set, take, drop}
-use Rattle.text.specs.Lines.{lines}
-use Rattle.lines.specs.declared.Form.{Form}
-use Rattle.lines.specs.Line.{has_label, label_of}
-use Rattle.symbols.specs.Table.{names_of, entry_at}
+use Rattle.std.specs.Prelude.{ℕ, ◌+◌, ◌-◌, ◌/◌, ◌≤◌, ◌<◌, ◌≡◌, Bool, true, false, cond, List, [], ◌∷◌, ◌++◌, ltb, length, get_or, set, take, drop}
+use Rattle.lines.specs.Line.{label_of}
+use Rattle.symbols.specs.Table.{names_of}
 use Rattle.symbols.specs.Sound.{Sound}
-use Rattle.labels.specs.declared.FirstPass.{FirstPass}
 use Rattle.labels.specs.Text.{labels, are_right, label_values}
 use Rattle.labels.specs.Limits.{most_labels}
 
@@ -20,18 +17,12 @@ pub record LabelTable (source : List ℕ) (ls : List (List ℕ)) (table values :
 abbrev pub labels_within : ℕ → ℕ
 labels_within n = n / 3 + 1
 
--- What the first pass leaves in a table and in `values`: all labels of the text; where it stopped before the end of the text, the table has no room for as many as a text of that length can have.
-pub record LabelsFound (source table values : List ℕ) (r : FirstPass) : Type 0 where
-  pub all : r.all ≡ true → LabelTable source (lines source) table values r.labels
-  pub full : r.all ≡ false → length table < entry_at (labels_within (length source))
-
--- A line from p to e of a text, and n instructions and m labels before it, is noted in a table of labels and their values.
-pub record LabelNoted (source : List ℕ) (p e : ℕ) (f : Form) (table values : List ℕ) (n m r : ℕ) (table_after values_after : List ℕ) : Type 0 where
-  pub none : has_label f ≡ false → (r ≡ m) × (table_after ≡ table) × (values_after ≡ values)
-  pub some : has_label f ≡ true
+-- A line from p to e of a text, and n instructions and m labels before it, is noted in a table of labels and their values, if it defines a label.
+pub record LabelNoted (source : List ℕ) (p e : ℕ) (label : Bool) (table values : List ℕ) (n m r : ℕ) (table_after values_after : List ℕ) : Type 0 where
+  pub none : label ≡ false → (r ≡ m) × (table_after ≡ table) × (values_after ≡ values)
+  pub some : label ≡ true
       → (r ≡ m + 1)
-      × Sound source table_after (m + 1)
       × (names_of source table_after (m + 1) ≡ names_of source table m ++ (label_of (take (e - p) (drop p source)) ∷ []))
       × (values_after ≡ cond (ltb m most_labels) (set values m n) values)
       × (p + 2 ≤ e)
-  pub sizes : (length table_after ≡ length table) × (length values_after ≡ length values)
+  pub room : length table_after ≡ length table

@@ -1,81 +1,110 @@
 // The labels of a text, and their values.
+// Stays (2, 3, 5): a turn goes over a line, whose end is found by looking at blocks of bytes; the place is no counted index; the longest text is document 01's.
 ghost use Rattle.std.specs.Prelude.{◌≡◌, true, cond, ◌+◌, ◌-◌, ◌^◌, ◌≤◌, ◌<◌, ltb, length, take, drop, set};
-ghost use Rattle.text.specs.Numerals.{DigitValues};
 ghost use Rattle.lines.specs.Line.{has_label};
-ghost use Rattle.lines.specs.Parts.{most_places, Formed};
+ghost use Rattle.lines.specs.First.{FirstFormed, tells_label, tells_code};
 ghost use Rattle.symbols.specs.Table.{entry_at};
-ghost use Rattle.symbols.specs.Sound.{Empty, Sound};
+ghost use Rattle.symbols.specs.Sound.{Empty};
 ghost use Rattle.labels.specs.Limits.{most_source, most_labels};
-ghost use Rattle.labels.specs.Tables.{LabelsFound, LabelNoted};
+ghost use Rattle.labels.specs.Tables.{LabelNoted};
+ghost use Rattle.labels.specs.Found.{LabelsFound};
 
-use crate::counts::after_code;
-use crate::{FirstPass, MOST_LABELS};
-use lines::Form;
-use lines::forms::{first_form, has_label};
-use symbols::{add, has_room};
+use crate::{Labels, MOST_LABELS};
+use lines::forms::{PLACES, first_form, has_code, has_label};
+use lines::{First, Line};
+use source::NOWHERE;
+use symbols::Table;
+use text::digits::DigitTable;
 use text::lines::line_end;
 
-// Fills an empty table with the labels of a text, and `values` with the values of the first 1,024, as far as the table has room.
-pub fn find_labels(
-    source: &[u8],
-    table: &mut [u32],
-    values: &mut [u32],
-    places: &mut [usize],
-    digits: &[u8; 256],
-) -> FirstPass
-    requires { (length source.now ≤ most_source) × Empty table.old × (length values.old ≡ most_labels) × (length places.old ≡ most_places) × DigitValues digits.now }
-    ensures { (LabelsFound source.now table.new values.new result) × (length places.new ≡ most_places) }
+// Where a line ends is found by `line_end`, in blocks, so both passes go from line to line by a `while`.
+// The labels of a text, in words that are zero, and the values of the first 1,024; none where the table has no room for all.
+pub fn find_labels<'a>(
+    source: &'a [u8],
+    words: &'a mut [u32],
+    values: &'a mut [u32; MOST_LABELS],
+    digits: &DigitTable,
+) -> Option<Labels<'a>>
+    requires few { length source.now ≤ most_source }
+    requires empty { Empty words.old }
+    ensures { LabelsFound source.now (length words.old) result }
 {
+    let mut names = Table::empty(source, words);
+    let mut spans = [NOWHERE; PLACES];
     let mut p = 0;
     let mut n = 0;
-    let mut m = 0;
     while p < source.len() {
-        if !has_room(table, m) {
-            return FirstPass {
-                labels: m,
-                all: false,
-            };
+        if !names.has_room() {
+            return None;
         }
         let e = line_end(source, p);
-        let f = first_form(&source[p..e], places, digits);
-        m = note_label(source, p, e, f, places, table, values, n, m);
-        n = after_code(f, n);
+        let first = first_form(&source[p..e], &mut spans, digits);
+        n = note_line(&mut names, values, p, e, &first, n);
         p = e + 1;
     }
-    FirstPass {
-        labels: m,
-        all: true,
+    Some(Labels { names, values })
+}
+
+// Adds the label of the line from p to e, if it defines one, and stores its value; n instructions stand before it. How many instructions there are then.
+fn note_line(
+    names: &mut Table,
+    values: &mut [u32; MOST_LABELS],
+    p: usize,
+    e: usize,
+    first: &First,
+    n: usize,
+) -> usize
+    requires order { p ≤ e }
+    requires within { e ≤ length names.old.source.now }
+    requires length { length names.old.source.now < 2 ^ 32 }
+    requires first { FirstFormed (take (e - p) (drop p names.old.source.now)) first.now }
+    requires room { entry_at (names.old.count + 1) ≤ length names.old.words.now }
+    requires few { n < 2 ^ 32 }
+    requires small { names.old.count + 1 < 2 ^ 32 }
+    ensures source { names.new.source.now ≡ names.old.source.now }
+    ensures label { LabelNoted names.old.source.now p e (tells_label first.now) names.old.words.now values.old n names.old.count names.new.count names.new.words.now values.new }
+    ensures code { result ≡ cond (tells_code first.now) (n + 1) n }
+{
+    match first {
+        First::Whole(line) => {
+            note_label(names, values, p, e, line, n);
+            if has_code(line.form) { n + 1 } else { n }
+        }
+        First::Instruction => n + 1,
+        First::Neither => n,
     }
 }
 
-// Adds the label of the line from p to e, if it defines one, to the m labels before it; n instructions stand before it. How many labels there are then.
+// The same for a line that was read whole.
 fn note_label(
-    source: &[u8],
+    names: &mut Table,
+    values: &mut [u32; MOST_LABELS],
     p: usize,
     e: usize,
-    f: Form,
-    places: &[usize],
-    table: &mut [u32],
-    values: &mut [u32],
+    line: &Line,
     n: usize,
-    m: usize,
-) -> usize
-    requires { (p ≤ e) × (e ≤ length source.now) × (length source.now < 2 ^ 32) × (has_label f ≡ true → Formed (take (e - p) (drop p source.now)) places.now f) × (Sound source.now table.old m) × (entry_at (m + 1) ≤ length table.old) × (n < 2 ^ 32) × (m + 1 < 2 ^ 32) × (length values.old ≡ most_labels) }
-    ensures { LabelNoted source.now p e f table.old values.old n m result table.new values.new }
+)
+    requires order { p ≤ e }
+    requires within { e ≤ length names.old.source.now }
+    requires length { length names.old.source.now < 2 ^ 32 }
+    requires line { line.now.tokens.line.now ≡ take (e - p) (drop p names.old.source.now) }
+    requires room { entry_at (names.old.count + 1) ≤ length names.old.words.now }
+    requires few { n < 2 ^ 32 }
+    requires small { names.old.count + 1 < 2 ^ 32 }
+    ensures source { names.new.source.now ≡ names.old.source.now }
+    ensures label { LabelNoted names.old.source.now p e (has_label line.now.form) names.old.words.now values.old n names.old.count names.new.count names.new.words.now values.new }
 {
-    if !has_label(f) {
-        return m;
+    if !has_label(line.form) {
+        return;
     }
-    let start = p + places[0];
-    let end = p + places[1] - 1;
-    add(source, table, m, start, end);
-    note_value(values, n, m);
-    m + 1
+    let s = line.tokens.spans[0];
+    note_value(values, n, names.count);
+    names.add(p + s.start, p + s.end - 1);
 }
 
 // Stores the value of label m, if it is one of the first 1,024.
-fn note_value(values: &mut [u32], n: usize, m: usize)
-    requires { (length values.old ≡ most_labels) × (n < 2 ^ 32) }
+fn note_value(values: &mut [u32; MOST_LABELS], n: usize, m: usize)
+    requires { n < 2 ^ 32 }
     ensures { values.new ≡ cond (ltb m most_labels) (set values.old m n) values.old }
 {
     if m < MOST_LABELS {

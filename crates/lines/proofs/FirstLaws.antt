@@ -1,5 +1,5 @@
 -- What the first token tells of the form of a line. Assumes nothing.
-use Prim.Native.Nat.{ℕ, ◌+◌, ◌-◌, ◌≤◌, ◌<◌}
+use Prim.Native.Nat.{ℕ, ◌+◌, ◌-◌, ◌<◌}
 use mathlib.Core.Path.{◌≡◌, refl, sym, ◌∙◌, ap}
 use mathlib.Core.Bool.{Bool, true, false, cond, ◌&&◌, false≢true}
 use mathlib.Core.List.{List, [], ◌∷◌}
@@ -13,14 +13,16 @@ use Rattle.text.proofs.Truth.{and_left}
 use Rattle.source.specs.declared.Span.{Span}
 use Rattle.source.specs.Bytes.{most_bytes, are_right_bytes, is_letter, is_letter_or_digit, are_all}
 use Rattle.source.specs.Tokens.{tokens, texts}
-use Rattle.source.specs.Spans.{TokenAt}
+use Rattle.source.specs.Spans.{FirstToken}
 use Rattle.text.specs.Same.{same}
 use Rattle.source.specs.Names.{is_name, defined, is_definition}
 use Rattle.source.specs.Shapes.{fits, matches, first_shape}
 use Rattle.lines.specs.declared.Form.{Form}
 use Rattle.lines.specs.declared.Form.TheVariants.{Nothing, Label, Code, Labelled, Word, Wrong}
 use Rattle.lines.specs.Line.{directive, shapes, form_at, form_of, is_right, has_label, has_code, part}
-use Rattle.lines.specs.Parts.{most_places, Formed, FirstFormed}
+use Rattle.lines.specs.declared.First.{First}
+use Rattle.lines.specs.declared.First.TheVariants.{Whole, Instruction, Neither}
+use Rattle.lines.specs.First.{FirstFormed, tells_label, tells_code}
 use Rattle.lines.proofs.FormLaws.{shape-number}
 
 -- ---- the shape behind a form
@@ -133,33 +135,29 @@ some-code line some none dot right = go (form_of line) (shaped line) none right
 -- ---- what the code finds
 
 -- Too many bytes.
-pub first_long : (line places : List ℕ) → most_bytes < length line → length places ≡ most_places → FirstFormed line places Wrong
+pub first_long : (line : List ℕ) → most_bytes < length line → FirstFormed line Neither
 unfolding form_of are_right_bytes
-first_long line places h room =
-    let long = lt-leb (length line) most_bytes h in
-    record { label = rw long; formed = λ e. absurd (false≢true e); code = λ r. rw long; room = room }
+first_long line h = let long = lt-leb (length line) most_bytes h in (rw long, λ r. rw long)
 
 -- No token.
-pub first-none : (line places : List ℕ) (s : Span) → TokenAt line 0 s → s.end ≤ s.start → length places ≡ most_places → FirstFormed line places Nothing
+pub first-none : (line : List ℕ) → tokens line ≡ [] → FirstFormed line Neither
 unfolding form_of shapes first_shape matches
-first-none line places s t h room =
-    let none : tokens line ≡ [] = t.none h in
-    record { label = rw none (both (are_right_bytes line)); formed = λ e. absurd (false≢true e); code = λ r. rw none (neither (are_right_bytes line)); room = room }
+first-none line none = (rw none (both (are_right_bytes line)), λ r. rw none (neither (are_right_bytes line)))
   where
-    neither : (b : Bool) → false ≡ has_code (cond b Nothing Wrong)
+    neither : (b : Bool) → has_code (cond b Nothing Wrong) ≡ false
     neither true = refl
     neither false = refl
 
-    both : (b : Bool) → false ≡ has_label (cond b Nothing Wrong)
+    both : (b : Bool) → has_label (cond b Nothing Wrong) ≡ false
     both true = refl
     both false = refl
 
-module _ (line places : List ℕ) (s : Span) (t : TokenAt line 0 s) (h : s.start < s.end) where
+module _ (line : List ℕ) (s : Span) (t : FirstToken line 0 s) where
   first_part : part 0 line ≡ take (s.end - s.start) (drop s.start line)
-  first_part = ap (λ (ts : List (List ℕ)). get_or ts 0 []) (ap texts (t.some h))
+  first_part = ap (λ (ts : List (List ℕ)). get_or ts 0 []) (ap texts t.is)
 
   some-tokens : 0 < length (texts (tokens line))
-  some-tokens = rw (ap texts (t.some h)) (omega arith)
+  some-tokens = rw (ap texts t.is) (omega arith)
 
   size : length (part 0 line) ≡ s.end - s.start
   size = let order = t.order in let within = t.within in ap length first_part ∙ length-take-le (s.end - s.start) (drop s.start line) (rw length-drop (omega arith))
@@ -169,22 +167,26 @@ module _ (line places : List ℕ) (s : Span) (t : TokenAt line 0 s) (h : s.start
 
   last_byte : get_or (part 0 line) (length (part 0 line) - 1) 0 ≡ get_or line (s.end - 1) 0
   last_byte =
+      let order = t.order in
       let place : s.start + (s.end - s.start - 1) ≡ s.end - 1 = omega arith in
       rw size (byte_at (s.end - s.start - 1) (omega arith) ∙ ap (λ (k : ℕ). get_or line k 0) place)
 
   first_byte : get_or (part 0 line) 0 0 ≡ get_or line s.start 0
-  first_byte = byte_at 0 (omega arith) ∙ ap (λ (k : ℕ). get_or line k 0) (omega arith)
+  first_byte = let order = t.order in byte_at 0 (omega arith) ∙ ap (λ (k : ℕ). get_or line k 0) (omega arith)
 
-  module _ (room : length places ≡ most_places) (colon : get_or line (s.end - 1) 0 ≡ 58 → ⊥) where
+  module _ (colon : get_or line (s.end - 1) 0 ≡ 58 → ⊥) where
     none : false ≡ has_label (form_of line)
     none = no_colon line (λ e. colon (sym last_byte ∙ e))
 
-    pub first_dot : get_or line s.start 0 ≡ 46 → FirstFormed line places Word
-    first_dot e = record { label = none; formed = λ q. absurd (false≢true q); code = λ r. dot_no_code line none (first_byte ∙ e); room = room }
+    pub first_dot : get_or line s.start 0 ≡ 46 → FirstFormed line Neither
+    first_dot e = (sym none, λ r. sym (dot_no_code line none (first_byte ∙ e)))
 
-    pub first_code : (get_or line s.start 0 ≡ 46 → ⊥) → FirstFormed line places Code
-    first_code n = record { label = none; formed = λ q. absurd (false≢true q); code = λ r. some-code line some-tokens none (λ e. n (sym first_byte ∙ e)) r; room = room }
+    pub first_code : (get_or line s.start 0 ≡ 46 → ⊥) → FirstFormed line Instruction
+    first_code n = (sym none, λ r. sym (some-code line some-tokens none (λ e. n (sym first_byte ∙ e)) r))
 
--- The whole form.
-pub first-whole : {line places : List ℕ} {f : Form} → Formed line places f → FirstFormed line places f
-first-whole p = record { label = ap has_label p.is; formed = λ e. p; code = λ r. ap has_code p.is; room = p.room }
+-- What it tells is so.
+pub first_tells : (line : List ℕ) (f : First) → FirstFormed line f
+    → (tells_label f ≡ has_label (form_of line)) × (is_right (form_of line) ≡ true → tells_code f ≡ has_code (form_of line))
+first_tells line (Whole l) e = let is = l.formed.is ∙ ap form_of e in (ap has_label is, λ r. ap has_code is)
+first_tells line Instruction e = (sym e.0, λ r. sym (e.1 r))
+first_tells line Neither e = (sym e.0, λ r. sym (e.1 r))

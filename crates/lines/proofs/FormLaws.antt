@@ -1,5 +1,5 @@
 -- The form of a line by the first shape that it has. Assumes nothing.
-use Prim.Native.Nat.{ℕ, ◌≤◌, ◌<◌}
+use Prim.Native.Nat.{ℕ, ◌+◌, ◌≤◌, ◌<◌}
 use mathlib.Core.Path.{◌≡◌, refl, sym, ◌∙◌}
 use mathlib.Core.Bool.{Bool, true, false, false≢true}
 use mathlib.Core.List.{List}
@@ -8,6 +8,7 @@ use lib.Dec.{eqb, ltb}
 use lib.ListN.{length}
 use borrow.Author.Tests.{eqb-true, eqb-false, ltb-true, ltb-false}
 use Rattle.text.specs.Bytes.{bytes}
+use Rattle.source.specs.declared.Span.{Span}
 use Rattle.source.specs.Bytes.{are_right_bytes}
 use Rattle.source.specs.Tokens.{tokens, texts}
 use Rattle.source.specs.Spans.{Split}
@@ -15,7 +16,7 @@ use Rattle.source.specs.Shapes.{matches, first_shape, parsed}
 use Rattle.source.proofs.ShapeLaws.{other_number}
 use Rattle.lines.specs.declared.Form.{Form}
 use Rattle.lines.specs.declared.Form.TheVariants.{Nothing, Label, Code, Labelled, Word, Wrong}
-use Rattle.lines.specs.Line.{directive, shapes, form_at, form_of}
+use Rattle.lines.specs.Line.{directive, shapes, form_at, form_of, has_code, has_word, op_at}
 use Rattle.lines.specs.Parts.{part_count, most_places, Formed}
 
 -- Tokens that have a shape are as many as its signs.
@@ -27,9 +28,9 @@ shape-number d shape ts e = go (eqb (length shape) (length ts)) refl
     go false q = absurd (false≢true (other_number d shape ts (eqb-false (length shape) (length ts) q) ∙ e))
 
 -- A line that has a shape was split into as many tokens.
-pub shape-parts : {line places : List ℕ} {n : ℕ} → Split line places n → length places ≡ most_places → (d shape : List ℕ) → length shape < 14
+pub shape-parts : {line : List ℕ} {spans : List Span} {n : ℕ} → Split line spans n → length spans ≡ most_places → (d shape : List ℕ) → length shape < 14
     → {r : Bool} → r ≡ matches d shape (texts (tokens line)) → r ≡ true → length shape ≤ n
-shape-parts {line} {places} {n} s room d shape few is e = go (ltb n (length shape)) refl
+shape-parts {line} {spans} {n} s room d shape few is e = go (ltb n (length shape)) refl
   where
     go : (b : Bool) → ltb n (length shape) ≡ b → length shape ≤ n
     go true q =
@@ -73,12 +74,25 @@ module _ (line : List ℕ) {a : Bool} (is : a ≡ matches directive (bytes "") (
 -- ---- the form
 
 -- A line that does not pass question 2 has none, ..
-pub formed_wrong : (line places : List ℕ) (r : Bool) → r ≡ are_right_bytes line → r ≡ false → length places ≡ most_places → Formed line places Wrong
+pub formed_wrong : (line : List ℕ) (n : ℕ) (r : Bool) → r ≡ are_right_bytes line → r ≡ false → Formed line n Wrong
 unfolding form_of
-formed_wrong line places r is e room = record { is = rw (← is, e); placed = λ k h. absurd (omega arith); room = room }
+formed_wrong line n r is e = record { is = rw (← is, e); parts = omega arith }
 
 -- .. and one that does that of its shape.
-pub formed-shape : {line places : List ℕ} {n : ℕ} → Split line places n → length places ≡ most_places → (r : Bool) → r ≡ are_right_bytes line → r ≡ true
-    → (f : Form) → f ≡ form_at (parsed directive shapes line).shape → part_count f ≤ n → Formed line places f
+pub formed-shape : (line : List ℕ) (n : ℕ) (r : Bool) → r ≡ are_right_bytes line → r ≡ true
+    → (f : Form) → f ≡ form_at (parsed directive shapes line).shape → part_count f ≤ n → Formed line n f
 unfolding form_of
-formed-shape s room r is e f shape few = record { is = rw (← is, e) shape; placed = λ k h. s.placed k (omega arith); room = room }
+formed-shape line n r is e f shape few = record { is = rw (← is, e) shape; parts = few }
+
+-- The form of an instruction: twelve tokens from its op on, for which there is room, and no `.word`.
+pub code-form : (f : Form) → has_code f ≡ true → (op_at f + 12 ≡ part_count f) × (part_count f < 14) × (has_word f ≡ false)
+code-form Nothing e = absurd (false≢true e)
+code-form Label e = absurd (false≢true e)
+code-form Code e = (refl, omega arith, refl)
+code-form Labelled e = (refl, omega arith, refl)
+code-form Word e = absurd (false≢true e)
+code-form Wrong e = absurd (false≢true e)
+
+-- Its tokens are all there.
+pub code_parts : {line : List ℕ} {n : ℕ} {f : Form} → Formed line n f → has_code f ≡ true → op_at f + 12 ≤ n
+code_parts {line} {n} {f} formed e = let all = (code-form f e).0 in let parts = formed.parts in omega arith

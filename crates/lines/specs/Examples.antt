@@ -1,11 +1,11 @@
 -- Lines and their forms, computed: the decided open points A2 to A15; ranges, and what is stored of a number.
-use Rattle.std.specs.Prelude.{ℕ, ◌≡◌, refl, true, false, List, [], ◌∷◌, ◌++◌, map, replicate}
+use Rattle.std.specs.Prelude.{ℕ, ◌≡◌, refl, true, false, Some, None, List, [], ◌∷◌, ◌++◌, map, replicate}
 use Prim.Native.String.{String}
 use Rattle.text.specs.Bytes.{bytes}
 use Rattle.text.specs.Numerals.{all_digits, value}
-use Rattle.source.specs.Bytes.{are_all, are_right_bytes}
+use Rattle.source.specs.Bytes.{are_right_bytes}
 use Rattle.source.specs.Tokens.{tokens_from}
-use Rattle.source.specs.declared.Number.TheVariants.{Decimal, Minus, Unsigned, NoNumber}
+use Rattle.source.specs.declared.Number.TheVariants.{Decimal, Minus, Unsigned}
 use Rattle.source.specs.Numbers.{number}
 use Rattle.text.specs.Same.{same}
 use Rattle.source.specs.Names.{is_name, is_register, is_definition}
@@ -16,7 +16,7 @@ use Rattle.lines.specs.Line.{shapes, form_of}
 use Rattle.lines.specs.Ranges.{is_within, is_immediate, modulo}
 
 unfoldable form_of_bytes : List ℕ → Form
-unfolding form_of shapes first_shape matches fits is_name is_register is_definition number same tokens_from are_right_bytes are_all all_digits value
+unfolding form_of shapes first_shape matches fits is_name is_register is_definition number same tokens_from are_right_bytes all_digits value
 form_of_bytes line = form_of line
 
 unfoldable form : String → Form
@@ -124,18 +124,18 @@ unfolding form
 longer_numbers = refl
 
 -- In range: from -1, decimals to 2 and the other forms to 3; what is no number always.
-within : map (is_within 1 2 3) (Decimal 2 ∷ Decimal 3 ∷ Minus 1 ∷ Minus 2 ∷ Unsigned 3 ∷ Unsigned 4 ∷ NoNumber ∷ [])
+within : map (is_within 1 2 3) (map Some (Decimal 2 ∷ Decimal 3 ∷ Minus 1 ∷ Minus 2 ∷ Unsigned 3 ∷ Unsigned 4 ∷ []) ++ (None ∷ []))
     ≡ true ∷ false ∷ true ∷ false ∷ true ∷ false ∷ true ∷ []
 within = refl
 
 -- Immediates: decimals from -2048 to 2047, the other forms to 4095.
 immediates : map is_immediate
-    (Decimal 2047 ∷ Decimal 2048 ∷ Decimal 4095 ∷ Minus 2048 ∷ Minus 2049 ∷ Unsigned 2048 ∷ Unsigned 4095 ∷ Unsigned 4096 ∷ NoNumber ∷ [])
+    (map Some (Decimal 2047 ∷ Decimal 2048 ∷ Decimal 4095 ∷ Minus 2048 ∷ Minus 2049 ∷ Unsigned 2048 ∷ Unsigned 4095 ∷ Unsigned 4096 ∷ []) ++ (None ∷ []))
     ≡ true ∷ false ∷ false ∷ true ∷ false ∷ true ∷ true ∷ false ∷ true ∷ []
 immediates = refl
 
 -- "stored modulo 4096", here 16.
-remainders : map (modulo 16) (Decimal 17 ∷ Minus 1 ∷ Minus 16 ∷ Unsigned 18 ∷ NoNumber ∷ []) ≡ 1 ∷ 15 ∷ 0 ∷ 2 ∷ 0 ∷ []
+remainders : map (modulo 16) (map Some (Decimal 17 ∷ Minus 1 ∷ Minus 16 ∷ Unsigned 18 ∷ []) ++ (None ∷ [])) ≡ 1 ∷ 15 ∷ 0 ∷ 2 ∷ 0 ∷ []
 remainders = refl
 
 -- ---- names

@@ -3,5 +3,7 @@ pub mod Line
 pub mod Parts
 pub mod Ranges
 pub mod Asked
+pub mod First
+pub mod Numbered
 pub mod Names
 pub mod Examples

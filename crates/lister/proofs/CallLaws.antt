@@ -1,4 +1,5 @@
 -- What the lister's answer tells of the words and of the text. Assumes nothing.
+use Rattle.std.specs.Prelude.{Result}
 use Prim.Native.Nat.{ℕ, zero, suc, ◌+◌, ◌≤◌}
 use mathlib.Core.Path.{◌≡◌, refl, sym, ◌∙◌, ap}
 use mathlib.Core.List.{List, [], ◌∷◌}
@@ -14,7 +15,7 @@ use Rattle.text.proofs.QuestionLaws.{first_yes}
 use Rattle.text.proofs.PutLaws.{put_front}
 use Rattle.files.specs.Sizes.{image_words}
 use Rattle.isa.specs.Word.{fields_of}
-use Rattle.lister.specs.declared.Listed.{Listed}
+use Rattle.lister.specs.declared.ListError.{ListError}
 use Rattle.lister.specs.Listing.{listing}
 use Rattle.lister.specs.Calls.{KnownOpcodes, listed_outcome, last_opcode, first_unknown, list_outcome, TextListed}
 
@@ -65,7 +66,7 @@ accepted-is words room n e =
     }
 
 -- The text stands at the front of what was lent.
-pub text_in_front : (words out : List ℕ) (r : Listed) (after : List ℕ) (n : ℕ) → TextListed words out r after → listed_outcome r ≡ accepted n
+pub text_in_front : (words out : List ℕ) (r : Result ℕ ListError) (after : List ℕ) (n : ℕ) → TextListed words out r after → listed_outcome r ≡ accepted n
     → take n after ≡ listing words
 text_in_front words out r after n p e =
     let outcome = sym p.answer ∙ e in

@@ -1,23 +1,24 @@
 -- The passes over the words, word after word. Assumes nothing.
 use Prim.Native.Nat.{ℕ, ◌+◌, ◌*◌, ◌≤◌, ◌<◌}
-use mathlib.Core.Path.{◌≡◌, sym}
-use mathlib.Core.Bool.{cond}
+use mathlib.Core.Path.{◌≡◌, refl, sym, ◌∙◌, ap}
+use mathlib.Core.Bool.{Bool, true, false, cond, not}
 use mathlib.Core.List.{List, [], ◌∷◌, ◌++◌, map, append_assoc}
 use native.Mathlib.Omega.{arith}
 use native.Mathlib.Numerals.{add-one}
-use lib.Dec.{ltb}
+use lib.Dec.{leb}
 use lib.ListN.{length, drop, get_or, length-append, drop_of_length-le}
 use lib.Seq.{drop-cons}
-use borrow.Author.Tests.{le-leb, lt-leb, lt-ltb, le-ltb}
 use Rattle.text.specs.Lines.{LF, unlines}
 use Rattle.text.specs.Place.{put}
 use Rattle.text.specs.declared.Outcome.{Outcome}
 use Rattle.text.specs.Questions.{refused}
 use Rattle.text.proofs.PutLaws.{put_nil, put-append}
-use Rattle.isa.specs.declared.Fields.{Fields}
 use Rattle.isa.specs.Word.{fields_of}
 use Rattle.lister.specs.Listing.{listed_line, listing}
-use Rattle.lister.specs.Calls.{first_unknown}
+use Rattle.std.specs.Prelude.{Some, position}
+use Rattle.std.specs.List.{position_from}
+use Rattle.std.proofs.lemmas.Iterator.Adapters.{position_from-zero}
+use Rattle.lister.specs.Calls.{last_opcode, unknown_told, first_unknown}
 use Rattle.lister.proofs.LineLaws.{line_most}
 
 -- ---- the text
@@ -63,24 +64,21 @@ module _ (ws : List ℕ) (i : ℕ) where
   unfolding listing unlines
   put-end out at h = rw (drop_of_length-le ws h, put_nil)
 
-  -- .. and its opcode asked.
-  module _ (next : Outcome) (f : Fields) (inside : i < length ws) (e : f ≡ fields_of (get_or ws i 0)) where
-    pub unknown_turn : f.op ≤ 21 → first_unknown (i + 1) (drop (i + 1) ws) next ≡ first_unknown i (drop i ws) next
-    unfolding first_unknown
-    unknown_turn known = rw (drop-word inside, le-leb _ 21 (rw e at known))
+-- ---- the search for an unknown opcode
 
-    pub unknown_here : 21 < f.op → first_unknown i (drop i ws) next ≡ refused 16 i
-    unfolding first_unknown
-    unknown_here unknown = rw (drop-word inside, lt-leb _ 21 (rw e at unknown))
+abbrev is_unknown : ℕ → Bool
+is_unknown w = not (leb (fields_of w).op last_opcode)
 
-  pub unknown_past : (next : Outcome) → length ws ≤ i → first_unknown i (drop i ws) next ≡ next
-  unfolding first_unknown
-  unknown_past next h = rw (drop_of_length-le ws h)
+told_from : (i : ℕ) (ws : List ℕ) (next : Outcome) → first_unknown i ws next ≡ unknown_told (position_from is_unknown i ws) next
+unfolding first_unknown
+told_from i [] next = refl
+told_from i (w ∷ ws) next = go (leb (fields_of w).op last_opcode) (told_from (i + 1) ws next)
+  where
+    go : (known : Bool) → first_unknown (i + 1) ws next ≡ unknown_told (position_from is_unknown (i + 1) ws) next
+        → cond known (first_unknown (i + 1) ws next) (refused 16 i) ≡ unknown_told (cond (not known) (Some i) (position_from is_unknown (i + 1) ws)) next
+    go true e = e
+    go false e = refl
 
--- ---- what the search for an unknown opcode returns
-
-pub found : (ws : List ℕ) (i : ℕ) (next : Outcome) → i < length ws → refused 16 i ≡ cond (ltb i (length ws)) (refused 16 i) next
-found ws i next h = rw (lt-ltb i (length ws) h)
-
-pub not_found : (ws : List ℕ) (i : ℕ) (next : Outcome) → length ws ≤ i → next ≡ cond (ltb i (length ws)) (refused 16 i) next
-not_found ws i next h = rw (le-ltb i (length ws) h)
+-- What it returns tells what is refused.
+pub told : (ws : List ℕ) (next : Outcome) → first_unknown 0 ws next ≡ unknown_told (position is_unknown ws) next
+told ws next = told_from 0 ws next ∙ ap (λ o. unknown_told o next) (sym (position_from-zero is_unknown ws))

@@ -1,4 +1,5 @@
 // Immediates as signed decimals.
+// Stays (2, 4): the text goes to a place of a lent buffer (no heap), and is measured without it where the room is asked.
 ghost use Rattle.std.specs.Prelude.{◌≡◌, ◌+◌, ◌^◌, ◌≤◌, ◌<◌, nat_abs, length};
 ghost use Rattle.std.specs.Int.Signed.{mag};
 ghost use Rattle.std.specs.Int.{w32};
@@ -20,12 +21,11 @@ fn signed_immediate(immediate: u32) -> i32
     signed(sign_extend(immediate))
 }
 
-// A signed number without its sign; its negation fits where it is one of 12 bits.
-fn magnitude(z: i32) -> u32
-    requires { mag z < 2 ^ 12 }
+// A signed number without its sign.
+fn magnitude(z: i32) -> u64
     ensures { result ≡ nat_abs z }
 {
-    if z < 0 { (0 - z) as u32 } else { z as u32 }
+    u64::from(z.unsigned_abs())
 }
 
 // How many bytes the sign of a number has.
@@ -54,7 +54,7 @@ pub fn immediate_length(immediate: u32) -> usize
     ensures { (result ≡ length (signed_decimal immediate)) × (result ≤ 5) }
 {
     let z = signed_immediate(immediate);
-    sign_length(z) + digit_count(magnitude(z) as u64)
+    sign_length(z) + digit_count(magnitude(z))
 }
 
 // Puts an immediate as a signed decimal at a place and returns the place after it.
@@ -64,5 +64,5 @@ pub fn put_immediate(out: &mut [u8], at: usize, immediate: u32) -> usize
 {
     let z = signed_immediate(immediate);
     let digits_at = put_sign(out, at, z);
-    put_decimal(out, digits_at, magnitude(z) as u64)
+    put_decimal(out, digits_at, magnitude(z))
 }

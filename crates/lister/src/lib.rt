@@ -1,4 +1,5 @@
 // The lister: instruction words as assembly text. What it writes and what it answers stand in specs/.
+// Stays (2): the words of an image are document 01's, said where the question is asked.
 #![tactic(auto)]
 
 mod answers;
@@ -18,11 +19,9 @@ pub use used::used_words;
 // The words of an image, as many as can be listed at once.
 const MOST_WORDS: usize = 4096;
 
-// What listing answers.
+// Why words are not listed.
 #[derive(Clone, Copy)]
-pub enum Listed {
-    // So many bytes of text stand at the front of the lent slice.
-    Bytes(usize),
+pub enum ListError {
     // More words are lent than an image has.
     WrongLength,
     // This word, counted from 0, has an opcode that names no operation.
@@ -31,19 +30,18 @@ pub enum Listed {
     NoRoom,
 }
 
-// Writes each word as a line of assembly text into the front of `text`; a refusal changes nothing.
-pub fn list(words: &[u64], text: &mut [u8]) -> Listed
+// Writes each word as a line of assembly text into the front of `text`, and returns how many bytes stand there; a refusal changes nothing.
+pub fn list(words: &[u64], text: &mut [u8]) -> Result<usize, ListError>
     ensures { TextListed words.now text.old result text.new }
 {
     if MOST_WORDS < words.len() {
-        return Listed::WrongLength;
+        return Err(ListError::WrongLength);
     }
-    let bad = first_unknown(words);
-    if bad < words.len() {
-        return Listed::UnknownOpcode(bad);
+    if let Some(word) = first_unknown(words) {
+        return Err(ListError::UnknownOpcode(word));
     }
     if !has_room(words, text.len()) {
-        return Listed::NoRoom;
+        return Err(ListError::NoRoom);
     }
-    Listed::Bytes(put_lines(words, text))
+    Ok(put_lines(words, text))
 }

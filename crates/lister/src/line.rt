@@ -1,14 +1,15 @@
 // One line of the listing, put piece by piece.
+// Stays (2, 4): the text goes to a place of a lent buffer (no heap) by stores of eight bytes, and is measured without it where the room is asked.
 ghost use Rattle.std.specs.Prelude.{◌≡◌, [], ◌∷◌, ◌++◌, ◌+◌, ◌^◌, ◌≤◌, ◌<◌, length};
 ghost use Rattle.text.specs.Bytes.{bytes};
 ghost use Rattle.text.specs.Lines.{LF as lf};
 ghost use Rattle.text.specs.Place.{put};
 ghost use Rattle.lister.specs.Listing.{signed_decimal, listed_line};
-ghost use Rattle.lister.specs.Pieces.{register_piece, register_pieces, NamePieces, PutWith};
+ghost use Rattle.lister.specs.Pieces.{register_piece, register_pieces, PutWith};
 
 use crate::immediates::put_immediate;
-use crate::pieces::{operation_place, put_piece, register_place};
-use isa::Fields;
+use crate::pieces::{operation_place, register_place};
+use crate::table::PieceTable;
 use isa::word::decode;
 use text::lines::LF;
 
@@ -30,23 +31,23 @@ fn put_registers(
     rs: usize,
     rt: usize,
     rm: usize,
-    table: &[u64; 39],
+    pieces: &PieceTable,
 ) -> usize
-    requires { (rd < 16) × (rs < 16) × (rt < 16) × (rm < 16) × (at + length (register_pieces rd rs rt rm) + 3 ≤ length out.old) × NamePieces table.now }
+    requires { (rd < 16) × (rs < 16) × (rt < 16) × (rm < 16) × (at + length (register_pieces rd rs rt rm) + 3 ≤ length out.old) }
     ensures { PutWith 3 out.old at (register_pieces rd rs rt rm) out.new result × (result ≡ at + length (register_pieces rd rs rt rm)) }
 {
-    let rs_at = put_register(out, at, rd, table);
-    let rt_at = put_register(out, rs_at, rs, table);
-    let rm_at = put_register(out, rt_at, rt, table);
-    put_register(out, rm_at, rm, table)
+    let rs_at = put_register(out, at, rd, pieces);
+    let rt_at = put_register(out, rs_at, rs, pieces);
+    let rm_at = put_register(out, rt_at, rt, pieces);
+    put_register(out, rm_at, rm, pieces)
 }
 
 // Puts a register, a comma and a blank, and returns the place after them; three bytes at least have to be put there next.
-fn put_register(out: &mut [u8], at: usize, n: usize, table: &[u64; 39]) -> usize
-    requires { (n < 16) × (at + length (register_piece n) + 3 ≤ length out.old) × NamePieces table.now }
+fn put_register(out: &mut [u8], at: usize, n: usize, pieces: &PieceTable) -> usize
+    requires { (n < 16) × (at + length (register_piece n) + 3 ≤ length out.old) }
     ensures { PutWith 3 out.old at (register_piece n) out.new result × (result ≡ at + length (register_piece n)) }
 {
-    put_piece(out, at, register_place(n), table)
+    pieces.put(out, at, register_place(n))
 }
 
 // Puts two immediates, a comma with its blank between them and an LF after them, and returns the place after it.
@@ -62,12 +63,12 @@ fn put_immediates(out: &mut [u8], at: usize, imm1: u32, imm2: u32) -> usize
 }
 
 // Puts the line of a word with its LF at a place and returns the place after it.
-pub fn put_line(out: &mut [u8], at: usize, word: u64, table: &[u64; 39]) -> usize
-    requires { (at + length (listed_line word) + 1 ≤ length out.old) × NamePieces table.now }
+pub fn put_line(out: &mut [u8], at: usize, word: u64, pieces: &PieceTable) -> usize
+    requires { at + length (listed_line word) + 1 ≤ length out.old }
     ensures { (out.new ≡ put out.old at (listed_line word ++ (lf ∷ []))) × (result ≡ at + length (listed_line word) + 1) }
 {
     let f = decode(word);
-    let registers_at = put_piece(out, at, operation_place(f.op), table);
-    let immediates_at = put_registers(out, registers_at, f.rd, f.rs, f.rt, f.rm, table);
+    let registers_at = pieces.put(out, at, operation_place(f.op));
+    let immediates_at = put_registers(out, registers_at, f.rd, f.rs, f.rt, f.rm, pieces);
     put_immediates(out, immediates_at, f.imm1, f.imm2)
 }

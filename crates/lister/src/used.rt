@@ -8,12 +8,8 @@ const WORD_END: u64 = 0x1_0000_0000_0000;
 pub fn used_words(words: &[u64]) -> usize
     ensures { Used words.now result }
 {
-    let mut n = words.len();
-    while 0 < n {
-        if words[n - 1] % WORD_END != 0 {
-            return n;
-        }
-        n -= 1;
-    }
-    0
+    words
+        .iter()
+        .rposition(|word| *word % WORD_END != 0)
+        .map_or(0, |last| last + 1)
 }

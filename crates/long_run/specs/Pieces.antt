@@ -1,9 +1,10 @@
 -- Runs whose log goes out in pieces.
-use Rattle.std.specs.Prelude.{ℕ, ◌≤◌, ◌<◌, ◌≡◌, Bool, true, false, ◌⊎◌, List, eqb, take, length}
+use Rattle.std.specs.Prelude.{ℕ, ◌≤◌, ◌<◌, ◌≡◌, Bool, true, false, ◌⊎◌, List, eqb, take, length, Result}
 use Rattle.machine.specs.State.{Machine}
 use Rattle.machine.specs.Soundness.{Sound}
 use Rattle.claim.specs.Plain.{is_over, after, log_after, Makes}
-use Rattle.runner.specs.declared.RunAnswer.{RunAnswer}
+use Rattle.runner.specs.declared.Reason.{Reason}
+use Rattle.runner.specs.declared.RunError.{RunError}
 use Rattle.runner.specs.declared.RunReport.{RunReport}
 use Rattle.runner.specs.Answers.{ran_reason}
 use Rattle.runner.specs.Lab.{simp, code_of}
@@ -21,7 +22,7 @@ abbrev pub lines_of : List ℕ → List ℕ → ℕ → Machine → List ℕ
 lines_of image irq2 n m = log_after simp (code_of image irq2) n m
 
 -- The run ended because "the cycle's lines don't fit the rest of the log (reason 2)".
-abbrev pub is_log_full : RunAnswer → Bool
+abbrev pub is_log_full : Result Reason RunError → Bool
 is_log_full a = eqb (ran_reason a) 2
 
 -- A run from m with so much budget, which reported r and left the machine n and the log `log`, is a piece of the plain machine's run.

@@ -1,4 +1,5 @@
 // The lines E and N, printed.
+// Stays (1, 2, 4, 6): the status and the number are documents 01 and 02's; the lines E and N are put by `summary`, whose bytes are proved.
 use summary::{put_line_e, put_line_n};
 
 // Prints the line E of a status and an age.

@@ -1,4 +1,5 @@
 // How far a long run is.
+// Stays (4, 6): a line is put into an array (no heap).
 use console::{put_if_room, put_number, tell};
 
 // The cycles between two lines, a power of 2.

@@ -10,7 +10,7 @@ use crate::progress::tell_progress;
 use crate::send::send;
 use crate::{RunEnd, Sink};
 use machine::Record;
-use runner::{RunAnswer, RunReport, run};
+use runner::{Reason, RunError, RunReport, run};
 use saved::fresh_record;
 
 // The cycles that a program may make.
@@ -63,10 +63,8 @@ pub fn run_on(
     let mut left = budget;
     loop {
         let piece = run_piece(state, image, memory, disk, frame, irq2, left, &mut log);
-        let bytes = piece.bytes;
-        let answer = piece.answer;
-        let is_full = is_log_full(answer);
-        let is_sent = send(rt, &log[..bytes], to);
+        let is_full = is_log_full(piece.answer);
+        let is_sent = send(rt, &log[..piece.bytes], to);
         state = piece.state;
         left -= piece.cycles;
         let made = budget - left;
@@ -100,11 +98,8 @@ fn run_piece(
 }
 
 // Whether a run ended because its log was full.
-fn is_log_full(answer: RunAnswer) -> bool
+fn is_log_full(answer: Result<Reason, RunError>) -> bool
     ensures { result ≡ is_log_full answer }
 {
-    match answer {
-        RunAnswer::LogFull => true,
-        _ => false,
-    }
+    matches!(answer, Ok(Reason::LogFull))
 }

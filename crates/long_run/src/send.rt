@@ -1,4 +1,5 @@
 // A piece of a log, written to where the log goes.
+// Stays (1, 6, 7): the caller joins the answer with another; the four texts are four arrays, so that no part is copied twice.
 ghost use Rattle.std.specs.Prelude.{◌≤◌, length};
 
 use crate::Sink;
@@ -35,10 +36,10 @@ fn write_piece(rt: HostRuntime, log: &[u8], to: Sink<'_>) -> io::Result<()>
 // Writes the lines T, H, L and D, without their letters, to a file each.
 fn write_split(
     log: &[u8],
-    trace: &Writing,
-    hwregtrace: &Writing,
-    leds: &Writing,
-    display7seg: &Writing,
+    trace: &Option<Writing>,
+    hwregtrace: &Option<Writing>,
+    leds: &Option<Writing>,
+    display7seg: &Option<Writing>,
 ) -> io::Result<()>
     requires { length log.now ≤ 65536 }
 {

@@ -1,4 +1,5 @@
 // The record of the machine, and what an instruction works on. What a cycle does with them stands in specs/.
+// Stays (1): status and flag are fields of the saved record and of the C interface, which may hold unsound ones (question 13).
 #![tactic(auto)]
 
 use devices::Drive;

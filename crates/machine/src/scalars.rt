@@ -1,4 +1,5 @@
 // One of the record's scalars changed, the others kept: where some are kept, they are written out here alone.
+// Stays (2, 4): the fields are written out one by one for speed, here alone: copied whole a cycle took 21 instructions more in place of 5 (docs/BENCHMARKS.md).
 ghost use Rattle.std.specs.Prelude.{◌≡◌};
 ghost use Rattle.machine.specs.State.{core_status, core_handler, core_pc, core_age, core_drive};
 

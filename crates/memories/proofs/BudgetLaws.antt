@@ -6,14 +6,12 @@ use mathlib.Core.List.{List}
 use native.Mathlib.Nat.{pow-le-pow_right, lt_of_lt_of_le}
 use native.Mathlib.Omega.{arith}
 use lib.Dec.{leb}
+use Rattle.std.specs.Prelude.{Option, Some, None}
 use lib.ListN.{length}
 use borrow.Author.Tests.{leb-true, le-leb, lt-leb}
 use Rattle.text.specs.Numerals.{all_digits, value, numeral}
-use Rattle.text.specs.declared.Numeral.TheVariants.{Value, NoNumeral}
 use Rattle.text.proofs.Truth.{and_left, and_right}
 use Rattle.text.proofs.DigitLaws.{number_yes, number_no, number-value, value_lt}
-use Rattle.memories.specs.declared.Count.{Count}
-use Rattle.memories.specs.declared.Count.TheVariants.{Of, None}
 use Rattle.memories.specs.Budget.{budget_of, BudgetRead}
 
 module _ (word : List ℕ) where
@@ -28,23 +26,23 @@ module _ (word : List ℕ) where
 
   -- Of the others the numeral decides.
   module _ (some : 1 ≤ length word) (few : length word ≤ 13) where
-    pub budget_is : (n : ℕ) → numeral 10 word ≡ Value n → Of n ≡ budget_of word
+    pub budget_is : (n : ℕ) → numeral 10 word ≡ Some n → Some n ≡ budget_of word
     unfolding budget_of
     budget_is n is =
         let good = number_yes (all_digits 10 word) (value 10 word) n is in
         let n-is = number-value (all_digits 10 word) (value 10 word) n is in
         rw (le-leb 1 (length word) some, le-leb (length word) 13 few, good, n-is)
 
-    pub budget_no : numeral 10 word ≡ NoNumeral → None ≡ budget_of word
+    pub budget_no : numeral 10 word ≡ None → None ≡ budget_of word
     unfolding budget_of
     budget_no is = rw (le-leb 1 (length word) some, le-leb (length word) 13 few, number_no (all_digits 10 word) (value 10 word) is)
 
   -- The word need not be named.
-  pub budget_read : {r : Count} → r ≡ budget_of word → BudgetRead r
+  pub budget_read : {r : Option ℕ} → r ≡ budget_of word → BudgetRead r
   unfolding budget_of
   budget_read is = rw is (go (leb 1 (length word) && leb (length word) 13 && all_digits 10 word) refl)
     where
-      go : (b : Bool) → (leb 1 (length word) && leb (length word) 13 && all_digits 10 word) ≡ b → BudgetRead (cond b (Of (value 10 word)) None)
+      go : (b : Bool) → (leb 1 (length word) && leb (length word) 13 && all_digits 10 word) ≡ b → BudgetRead (cond b (Some (value 10 word)) None)
       go true e =
           let form = and_left (leb 1 (length word) && leb (length word) 13) (all_digits 10 word) e in
           let good = and_right (leb 1 (length word) && leb (length word) 13) (all_digits 10 word) e in

@@ -5,6 +5,7 @@ use mathlib.Core.Bool.{Bool, true, false, cond, ◌&&◌}
 use mathlib.Core.List.{List, [], ◌∷◌}
 use native.Mathlib.Omega.{arith}
 use lib.Dec.{eqb, leb, ltb}
+use Rattle.std.specs.Prelude.{Option, Some, None, Result}
 use lib.ListN.{length, take}
 use borrow.Author.Tests.{eqb-true, leb-true}
 use Rattle.text.specs.declared.Outcome.{Outcome}
@@ -12,20 +13,16 @@ use Rattle.text.specs.Questions.{accepted, first_bad}
 use Rattle.text.specs.Lines.{lines}
 use Rattle.text.proofs.QuestionLaws.{first_yes}
 use Rattle.text.proofs.Truth.{and_right}
-use Rattle.files.specs.declared.CyclesRead.{CyclesRead}
+use Rattle.files.specs.declared.CycleError.{CycleError}
 use Rattle.files.specs.Sizes.{sector_words, disk_words, is_part_length}
 use Rattle.files.specs.MemoryFile.{is_word, word_questions, lines_outcome, read_outcome}
 use Rattle.files.specs.Answers.{cycles_read_outcome}
+use Rattle.files.specs.Loaded.{FileLoaded}
 use Rattle.files.specs.Promises.{Irq2Read}
 use Rattle.files.proofs.CycleLaws.{are_cycles}
 use Rattle.files.proofs.Irq2CutLaws.{cut-cycles}
 use Rattle.files.proofs.LoadedLaws.{counted}
-use Rattle.memories.specs.declared.Count.{Count}
-use Rattle.memories.specs.declared.Count.TheVariants.{Of, None}
-use Rattle.memories.specs.declared.FileLoad.{FileLoad}
-use Rattle.memories.specs.declared.FileLoad.TheVariants.{Read, Unread}
-use Rattle.memories.specs.Loading.{LoadedFile, is_loaded, Loaded}
-use Rattle.memories.specs.Cycles.{CyclesFile, FrontCycles, LoadedCycles, count_of, RiseIn}
+use Rattle.memories.specs.Cycles.{CyclesFile, FrontCycles, LoadedCycles, outcome_count, RiseIn}
 
 -- ---- a memory file
 
@@ -49,22 +46,22 @@ read-accepted k is_right n text good =
 pub part_most : (n : ℕ) → is_part_length n ≡ true → n ≤ disk_words
 part_most n e = leb-true n disk_words (and_right (eqb (n % sector_words) 0 && leb sector_words n) (leb n disk_words) e)
 
-module _ (k : ℕ) (is_right : ℕ → Bool) (before after : List ℕ) where
-  pub loaded : (l : FileLoad) {r : Bool} → LoadedFile k is_right l before after → r ≡ is_loaded l → Loaded k is_right r before after
-  loaded (Read t) file e = rw e (go (eqb t.number 0) refl)
+-- A file that `accept` accepts.
+module _ {k : ℕ} {is_right : ℕ → Bool} {before after : List ℕ} {t : Outcome} (file : FileLoaded k is_right t before after) where
+  pub loaded : (n : ℕ) → Some n ≡ outcome_count t → FileLoaded k is_right (accepted 0) before after
+  loaded n is = go (eqb t.number 0) refl is
     where
-      go : (b : Bool) → eqb t.number 0 ≡ b → Loaded k is_right b before after
-      go true e =
+      go : (b : Bool) → eqb t.number 0 ≡ b → Some n ≡ cond b (Some t.count) None → FileLoaded k is_right (accepted 0) before after
+      go true e same =
           let none = ap (λ (u : Outcome). u.number) (sym file.outcome) ∙ eqb-true t.number 0 e in
           let outcome : t ≡ accepted 0 = file.outcome ∙ read-accepted k is_right (length before) file.text none in
           record { text = file.text; outcome = sym outcome ∙ file.outcome; words = rw outcome at file.words }
-      go false e = file.words ∙ rw e
-  loaded Unread file e = rw e file
+      go false e same = cc
 
 -- ---- the irq2 file
 
 module _ {text before after : List ℕ} where
-  cycles_file : {a : CyclesRead} {t : Outcome} → Irq2Read text before a after → t ≡ cycles_read_outcome a → CyclesFile text t before after
+  cycles_file : {a : Result ℕ CycleError} {t : Outcome} → Irq2Read text before a after → t ≡ cycles_read_outcome a → CyclesFile text t before after
   cycles_file {a} {t} read says =
       let outcome = says ∙ read.answer in
       record {
@@ -75,7 +72,7 @@ module _ {text before after : List ℕ} where
       }
 
 -- Who reads the front of a text has read the text.
-pub front-cycles : (buffer : List ℕ) (n : ℕ) {before after : List ℕ} {a : CyclesRead} {t : Outcome} → 229376 < length buffer
+pub front-cycles : (buffer : List ℕ) (n : ℕ) {before after : List ℕ} {a : Result ℕ CycleError} {t : Outcome} → 229376 < length buffer
     → Irq2Read (take n buffer) before a after → t ≡ cycles_read_outcome a → FrontCycles buffer n t before after
 front-cycles buffer n {before} {after} {a} long read says =
     record {
@@ -83,14 +80,13 @@ front-cycles buffer n {before} {after} {a} long read says =
       whole = λ few text front. cycles_file (cut-cycles (length buffer) text before a after (omega arith) (rw front at read)) says;
     }
 
-pub rise_in : (before after : List ℕ) (l : FileLoad) {r : Count} → LoadedCycles l before after → r ≡ count_of l → RiseIn r before after
-rise_in before after (Read t) file e = rw e (go (eqb t.number 0) refl)
+pub rise_in : (before after : List ℕ) (t : Outcome) {r : Option ℕ} → LoadedCycles (Some t) before after → r ≡ outcome_count t → RiseIn r before after
+rise_in before after t file e = rw e (go (eqb t.number 0) refl)
   where
-    go : (b : Bool) → eqb t.number 0 ≡ b → RiseIn (cond b (Of t.count) None) before after
+    go : (b : Bool) → eqb t.number 0 ≡ b → RiseIn (cond b (Some t.count) None) before after
     go true q =
         let none = eqb-true t.number 0 q in
         let is = file.1.counted none in
         let rise = file.1.rise none in
         (rise.0, rise.1, record { text = file.0; outcome = sym is ∙ file.1.outcome; places = rw is at file.1.places })
     go false q = file.1.places ∙ rw q
-rise_in before after Unread file e = rw e file

@@ -1,10 +1,11 @@
 -- The record that reading hands back is sound, and what is refused is not. Assumes nothing.
 use Prim.Native.Nat.{ℕ, ◌≤◌, ◌<◌}
-use mathlib.Core.Path.{◌≡◌, sym, ◌∙◌, ap}
-use mathlib.Core.Bool.{Bool, true, false}
+use mathlib.Core.Path.{◌≡◌, refl, sym, ◌∙◌, ap}
+use mathlib.Core.Bool.{Bool, true, false, cond, false≢true}
 use mathlib.Core.List.{List}
 use native.Mathlib.Omega.{arith}
 use lib.Dec.{eqb}
+use Rattle.std.specs.Prelude.{Option, Some, None, Ok, Err}
 use lib.ListN.{length, take}
 use borrow.Author.Tests.{eqb-true, eq-eqb, ne_eqb}
 use Rattle.text.specs.declared.Outcome.{Outcome}
@@ -15,56 +16,60 @@ use Rattle.saved.specs.Sound.{is_sound}
 use Rattle.saved.specs.Layout.{record_bytes}
 use Rattle.saved.specs.Calls.{save_outcome, load_questions, load_outcome, load_record}
 use Rattle.saved.proofs.TripLaws.{load_sound}
-use Rattle.memories.specs.declared.RecordRead.{RecordRead}
-use Rattle.memories.specs.Records.{ReadFrom, FrontLoaded, LoadedIf, SoundRead, FreshRead}
+use Rattle.saved.specs.declared.LoadError.{LoadError}
+use Rattle.saved.specs.declared.LoadError.TheVariants.{WrongLength, OtherEdition, Unsound, Busy}
+use Rattle.saved.specs.Promises.{Loading}
+use Rattle.memories.specs.Records.{ReadFrom, FrontLoaded, RecordLoaded, SoundRead}
 use Rattle.files.proofs.FrontLaws.{front_self, by_front}
 
 -- ---- a record that is read
 
--- From its bytes: read, ..
-module _ (bytes : List ℕ) {t : Outcome} (outcome : t ≡ load_outcome bytes) where
-  pub record_read : (state : Record) → state ≡ load_record bytes → t.number ≡ 0 → ReadFrom bytes (record { state = state; is_read = true })
-  record_read state is none =
-      record { read = sym (eq-eqb (load_outcome bytes).number 0 (ap (λ (t : Outcome). t.number) (sym outcome) ∙ none)); is = is; sound = load_sound state bytes is }
+-- From its bytes: one that is read, ..
+pub record_read : (bytes : List ℕ) (state : Record) → Loading bytes (Ok state) → ReadFrom bytes (Some state)
+record_read bytes state load =
+    let good : (load_outcome bytes).number ≡ 0 = ap (λ (t : Outcome). t.number) (sym load.0) in
+    record { is = go (eqb (load_outcome bytes).number 0) (eq-eqb (load_outcome bytes).number 0 good); sound = load_sound state bytes load.1 }
+  where
+    go : (b : Bool) → b ≡ true → Some state ≡ cond b (Some (load_record bytes)) None
+    go true e = ap Some load.1
+    go false e = absurd (false≢true e)
 
-  -- .. or refused.
-  pub record_refused : (r : RecordRead) → FreshRead false r → (t.number ≡ 0 → ⊥) → ReadFrom bytes r
-  record_refused r fresh some =
-      let no = ne_eqb (load_outcome bytes).number 0 (λ e. some (ap (λ (t : Outcome). t.number) outcome ∙ e)) in
-      record { read = fresh.read ∙ sym no; is = fresh.state ∙ rw no; sound = fresh.sound }
+-- .. or one that is refused.
+pub record_refused : (bytes : List ℕ) (error : LoadError) → Loading bytes (Err error) → ReadFrom bytes None
+record_refused bytes WrongLength load = record { is = rw (← load.0); sound = tt }
+record_refused bytes OtherEdition load = record { is = rw (← load.0); sound = tt }
+record_refused bytes Unsound load = record { is = rw (← load.0); sound = tt }
+record_refused bytes Busy load = record { is = rw (← load.0); sound = tt }
 
 -- Files that are longer than a record of either edition are refused alike, whatever their bytes, ..
-too_long : (a b : List ℕ) {r : RecordRead} → record_bytes < length a → record_bytes < length b → ReadFrom a r → ReadFrom b r
+too_long : (a b : List ℕ) {r : Option Record} → record_bytes < length a → record_bytes < length b → ReadFrom a r → ReadFrom b r
 too_long a b long-a long-b from =
     let one-a = ne_eqb (length a) 91 (λ e. omega arith) in
     let two_a = ne_eqb (length a) 94 (λ e. omega arith) in
     let one_b = ne_eqb (length b) 91 (λ e. omega arith) in
     let two-b = ne_eqb (length b) 94 (λ e. omega arith) in
-    record { read = rw (one-a, two_a) at from.read ∙ rw (one_b, two-b); is = rw (one-a, two_a) at from.is ∙ rw (one_b, two-b); sound = from.sound }
+    record { is = rw (one-a, two_a) at from.is ∙ rw (one_b, two-b); sound = from.sound }
 
 -- .. so who reads one byte more than the longer edition's, or the whole file, has read the file.
-pub front-loaded : (buffer : List ℕ) (n : ℕ) {r : RecordRead} → record_bytes < length buffer → ReadFrom (take n buffer) r → FrontLoaded buffer n r
+pub front-loaded : (buffer : List ℕ) (n : ℕ) {r : Option Record} → record_bytes < length buffer → ReadFrom (take n buffer) r → FrontLoaded buffer n r
 front-loaded buffer n {r} room from whole front =
     by_front (λ (bytes : List ℕ). ReadFrom bytes r) buffer n whole front from
     (λ full long. too_long (take n buffer) whole (omega arith) (omega arith) from)
 
 -- The bytes need not be named.
-pub sound-read : (buffer : List ℕ) (n : ℕ) (r : RecordRead) → n ≤ length buffer → FrontLoaded buffer n r → SoundRead r
-sound-read buffer n r h front = record { sound = from.sound; loaded = go r.is_read from.read }
+pub sound-read : (buffer : List ℕ) (n : ℕ) (r : Option Record) → n ≤ length buffer → FrontLoaded buffer n r → SoundRead r
+sound-read buffer n None h front = tt
+sound-read buffer n (Some state) h front = (from.sound, go (eqb (load_outcome bytes).number 0) refl from.is)
   where
     bytes : List ℕ
     bytes = take n buffer
 
-    from : ReadFrom (take n buffer) r
+    from : ReadFrom (take n buffer) (Some state)
     from = front (take n buffer) (front_self buffer n h)
 
-    go : (b : Bool) → b ≡ eqb (load_outcome bytes).number 0 → LoadedIf b r.state
-    go true e = record { bytes = bytes; outcome = sym (by_number (load_questions bytes) (sym (eqb-true (load_outcome bytes).number 0 (sym e)))); is = from.is }
-    go false e = from.is ∙ rw (← e)
-
--- The fresh one.
-pub fresh-read : (r : RecordRead) → FreshRead false r → SoundRead r
-fresh-read r fresh = record { sound = fresh.sound; loaded = rw fresh.read fresh.state }
+    go : (b : Bool) → eqb (load_outcome bytes).number 0 ≡ b → Some state ≡ cond b (Some (load_record bytes)) None → RecordLoaded state
+    go true e is = record { bytes = bytes; outcome = sym (by_number (load_questions bytes) (sym (eqb-true (load_outcome bytes).number 0 e))); is = cc }
+    go false e is = cc
 
 -- ---- a record that is saved
 

@@ -1,15 +1,11 @@
 -- What reading the irq2 file promises.
-use Rattle.std.specs.Prelude.{ℕ, ◌≤◌, ◌≡◌, true, cond, List, eqb, length, take}
+use Rattle.std.specs.Prelude.{ℕ, ◌≤◌, ◌≡◌, true, cond, List, eqb, length, take, Option, Some, None}
 use Rattle.text.specs.declared.Outcome.{Outcome}
 use Rattle.text.specs.Questions.{accepted, unless_refused}
 use Rattle.text.specs.Place.{put}
 use Rattle.files.specs.Irq2File.{irq2_outcome, file_cycles, rising}
 use Rattle.files.specs.Loaded.{CyclesLoaded, AreCycles}
 use Rattle.files.specs.Front.{IsFront}
-use Rattle.memories.specs.declared.Count.{Count}
-use Rattle.memories.specs.declared.Count.TheVariants.{Of, None}
-use Rattle.memories.specs.declared.FileLoad.{FileLoad}
-use Rattle.memories.specs.declared.FileLoad.TheVariants.{Read, Unread}
 
 -- The cycles of this text are read: t is the outcome that the definition of `files` says. They stand at the front then, and rise, and the places after
 -- them are as before; where the text is refused, nothing is changed.
@@ -29,19 +25,15 @@ pub record FrontCycles (buffer : List ℕ) (n : ℕ) (t : Outcome) (before after
   pub whole : length before ≤ most_places → (text : List ℕ) → IsFront buffer n text → CyclesFile text t before after
 
 -- The same of a file, whose text can't be named. A file that can't be read changes nothing.
-abbrev pub LoadedCycles : FileLoad → List ℕ → List ℕ → Type 0
-LoadedCycles (Read t) before after = (text : List ℕ) × CyclesFile text t before after
-LoadedCycles Unread before after = after ≡ before
+abbrev pub LoadedCycles : Option Outcome → List ℕ → List ℕ → Type 0
+LoadedCycles (Some t) before after = (text : List ℕ) × CyclesFile text t before after
+LoadedCycles None before after = after ≡ before
 
--- How many cycles were read; none of a file that is refused.
-abbrev pub outcome_count : Outcome → Count
-outcome_count t = cond (eqb t.number 0) (Of t.count) None
-
-abbrev pub count_of : FileLoad → Count
-count_of (Read t) = outcome_count t
-count_of Unread = None
+-- The count of an outcome; none of a refusal.
+abbrev pub outcome_count : Outcome → Option ℕ
+outcome_count t = cond (eqb t.number 0) (Some t.count) None
 
 -- So many cycles stand at the front, and rise: those of some text that the definition of `files` accepts. Where there is none, nothing is changed.
-abbrev pub RiseIn : Count → List ℕ → List ℕ → Type 0
-RiseIn (Of n) before after = (n ≤ length after) × (rising (take n after) ≡ true) × CyclesLoaded (accepted n) before after
+abbrev pub RiseIn : Option ℕ → List ℕ → List ℕ → Type 0
+RiseIn (Some n) before after = (n ≤ length after) × (rising (take n after) ≡ true) × CyclesLoaded (accepted n) before after
 RiseIn None before after = after ≡ before

@@ -1,10 +1,8 @@
 -- What reading a file's front promises.
-use Rattle.std.specs.Prelude.{ℕ, List}
+use Rattle.std.specs.Prelude.{ℕ, List, Option, Some, None}
 use Rattle.console.specs.Counts.{IsPrefixLen}
-use Rattle.memories.specs.declared.Count.{Count}
-use Rattle.memories.specs.declared.Count.TheVariants.{Of, None}
 
 -- A count of bytes lies within the buffer.
-abbrev pub CountIn : Count → List ℕ → Type 0
-CountIn (Of n) buffer = IsPrefixLen n buffer
+abbrev pub CountIn : Option ℕ → List ℕ → Type 0
+CountIn (Some n) buffer = IsPrefixLen n buffer
 CountIn None buffer = Unit

@@ -2,49 +2,37 @@
 ghost use Rattle.std.specs.Prelude.{◌≡◌};
 ghost use Rattle.memories.specs.Budget.{budget_of, BudgetRead};
 
-use crate::Count;
-use console::{NAME, argument, say_of};
-use text::Numeral;
-use text::digits::{digit_values, read_digits};
+use console::{Name, say_of};
+use text::digits::DigitTable;
 
 // The most digits of a number of cycles.
 const DIGITS: usize = 13;
 
-// The number of cycles that an argument gives, in 1 to 13 decimal digits.
-pub fn read_budget(rt: HostRuntime, i: usize) -> Count
+// The number of cycles that an argument gives, in 1 to 13 decimal digits; none where it gives none, as is said.
+pub fn read_budget(rt: HostRuntime, i: usize) -> Option<usize>
     ensures { BudgetRead result }
 {
-    let mut word = [0u8; NAME];
-    let n = argument(rt, i, &mut word);
-    budget_of(rt, &word[..n])
+    let name = Name::of_argument(rt, i);
+    let budget = budget_of(name.bytes());
+    if budget.is_none() {
+        say_of(
+            rt,
+            name.bytes(),
+            b": no number of cycles (it has 1 to 13 decimal digits)\n",
+        );
+    }
+    budget
 }
 
-// The number of cycles that a word gives; none where it gives none, as is said.
-fn budget_of(rt: HostRuntime, word: &[u8]) -> Count
+// The number of cycles that a word gives, if it gives one.
+fn budget_of(word: &[u8]) -> Option<usize>
     ensures { result ≡ budget_of word.now }
 {
-    let n = word.len();
-    if n == 0 {
-        return no_budget(rt, word);
+    if word.len() == 0 || DIGITS < word.len() {
+        return None;
     }
-    if DIGITS < n {
-        return no_budget(rt, word);
+    match DigitTable::new().read_digits(word, 10) {
+        Some(cycles) => Some(cycles as usize),
+        None => None,
     }
-    let values = digit_values();
-    match read_digits(word, 10, &values) {
-        Numeral::Value(cycles) => Count::Of(cycles as usize),
-        Numeral::NoNumeral => no_budget(rt, word),
-    }
-}
-
-// Says that a word is no number of cycles.
-fn no_budget(rt: HostRuntime, word: &[u8]) -> Count
-    ensures { result ≡ Count.None }
-{
-    say_of(
-        rt,
-        word,
-        b": no number of cycles (it has 1 to 13 decimal digits)\n",
-    );
-    Count::None
 }

@@ -1,9 +1,10 @@
 // Names that arguments give.
+// Stays (2): each question of a name has its own answer; what they share is `Name::of_argument`.
 ghost use Rattle.std.specs.Prelude.{◌≡◌, true, List, ℕ, ◌+◌, ◌^◌, ◌<◌};
 ghost use Rattle.memories.specs.Names.{is_device, is_new_of, clash};
 
 use crate::named::say_at;
-use console::{NAME, argument};
+use console::Name;
 use text::same::{are_same, begins_with};
 
 // Whether the name of a file that is written clashes with that of one before it: the arguments from `first` on, of which so many are read. Says so
@@ -12,12 +13,10 @@ pub fn names_clash(rt: HostRuntime, first: usize, read: usize, count: usize) -> 
     requires { first + count < 2 ^ 64 }
     ensures { result ≡ true → read < count }
 {
-    let mut i = read;
-    while i < count {
+    for i in read..count {
         if clashes_with_one(rt, first + i, first, i) {
             return true;
         }
-        i += 1;
     }
     false
 }
@@ -27,40 +26,29 @@ pub fn clashes_with_one(rt: HostRuntime, i: usize, first: usize, count: usize) -
     requires { first + count < 2 ^ 64 }
     ensures { result ≡ true → 0 < count }
 {
-    let mut k = 0;
-    while k < count {
-        if arguments_clash(rt, first + k, i) {
+    for k in first..first + count {
+        if arguments_clash(rt, k, i) {
             say_at(rt, i, b" is given for two files; nothing is written\n");
             return true;
         }
-        k += 1;
     }
     false
 }
 
 // Whether two arguments give names that clash.
 fn arguments_clash(rt: HostRuntime, i: usize, j: usize) -> bool {
-    let mut first = [0u8; NAME];
-    let n = argument(rt, i, &mut first);
-    let mut second = [0u8; NAME];
-    let m = argument(rt, j, &mut second);
-    do_clash(&first[..n], &second[..m])
+    do_clash(
+        Name::of_argument(rt, i).bytes(),
+        Name::of_argument(rt, j).bytes(),
+    )
 }
 
 // Whether two names are the same, or one is the other's `.new`; a device's is never.
+#[tactic(auto, unfolding(crate::specs::Names::clash))]
 fn do_clash(a: &[u8], b: &[u8]) -> bool
     ensures { result ≡ clash a.now b.now }
 {
-    if is_device(a) {
-        return false;
-    }
-    if is_new_of(a, b) {
-        return true;
-    }
-    if is_new_of(b, a) {
-        return true;
-    }
-    are_same(a, b)
+    !is_device(a) && (is_new_of(a, b) || is_new_of(b, a) || are_same(a, b))
 }
 
 // Whether a name is another one and `.new`.
@@ -78,9 +66,7 @@ fn is_new_of(new: &[u8], name: &[u8]) -> bool
 pub fn is_device_at(rt: HostRuntime, i: usize) -> bool
     ensures { (name : List ℕ) × (result ≡ is_device name) }
 {
-    let mut name = [0u8; NAME];
-    let n = argument(rt, i, &mut name);
-    is_device(&name[..n])
+    is_device(Name::of_argument(rt, i).bytes())
 }
 
 // Whether a name begins with `/dev/`.

@@ -1,9 +1,7 @@
 // The machine's memories, its irq2 list and its record, read from files and written to files. A function whose name ends in `_at`, or that writes,
-// takes the number of the program's argument that names the file; the others take its path. What is refused, and why, is said on standard output.
+// takes the number of the program's argument that names the file; the others take its path. What is refused, and why, is said on standard output; the
+// answer is none then.
 #![tactic(auto)]
-
-use machine::Record;
-use text::Outcome;
 
 mod budget;
 mod cycles;
@@ -21,34 +19,9 @@ pub use front::read_front_at;
 pub use given_names::{clashes_with_one, is_device_at, names_clash};
 pub use load::{load_data, load_disk, load_frame, load_image};
 pub use load_at::{load_data_at, load_disk_at, load_frame_at, load_image_at};
-pub use named::{
-    abandon_at, begin_at, commit_at, drop_at, end_at, is_missing_at, more_at, refuse_at, say_at,
-};
+pub use named::{accept_at, begin_at, commit_at, drop_at, end_at, is_missing_at, more_at, say_at};
 pub use new_files::{
     write_new_bytes, write_new_data, write_new_disk, write_new_frame, write_new_image,
     write_new_text,
 };
-pub use records::{fresh, load_record_at, write_new_record};
-
-// A count, or none where something was refused, as was said.
-#[derive(Clone, Copy)]
-pub enum Count {
-    Of(usize),
-    None,
-}
-
-// What loading a file answers.
-#[derive(Clone, Copy)]
-pub enum FileLoad {
-    // The file was read, and this is its outcome.
-    Read(Outcome),
-    // The file can't be read, as was said.
-    Unread,
-}
-
-// A record to go on with; or the fresh one where none was read, as was said.
-#[derive(Clone, Copy)]
-pub struct RecordRead {
-    pub state: Record,
-    pub is_read: bool,
-}
+pub use records::{load_record_at, write_new_record};

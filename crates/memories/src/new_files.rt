@@ -1,14 +1,14 @@
-// Memories written as new files, beside the old ones.
-ghost use Rattle.std.specs.Prelude.{◌≡◌, eqb, length};
+// Memories written as new files, beside the old ones. (The four differ in the writer, the room and the length that their contracts name.)
+// Stays (2, 5): the four differ in the writer, the room and the length that their contracts name; what they share is `write_new_text`.
+ghost use Rattle.std.specs.Prelude.{eqb, length};
 ghost use Rattle.files.specs.Sizes.{is_image_length, is_data_length, is_disk_length, is_frame_length};
 ghost use Rattle.files.specs.Answers.{written_outcome};
-ghost use Rattle.console.specs.Writings.{no_file, Begun};
 ghost use Rattle.memories.specs.NewFiles.{NewWritten};
 
-use crate::named::refuse_at;
-use console::{NAME, Writing, argument, write_new_file};
-use files::{Written, write_data, write_disk, write_frame, write_image};
-use text::Outcome;
+use crate::named::accept_at;
+use console::{Name, Writing, write_new_file};
+use files::{WriteError, write_data, write_disk, write_frame, write_image};
+use text::outcomes::counted;
 
 // The bytes of an instruction file, of a file of data, of the disk and of the frame.
 const IMAGE_TEXT: usize = 53_248;
@@ -20,7 +20,7 @@ const DISK_TEXT: usize = 147_456;
 const FRAME_TEXT: usize = 196_608;
 
 // Writes the instruction file as a new file, under the name that an argument gives.
-pub fn write_new_image(rt: HostRuntime, i: usize, image: &[u64]) -> Writing
+pub fn write_new_image(rt: HostRuntime, i: usize, image: &[u64]) -> Option<Writing>
     ensures { NewWritten (is_image_length (length image.now)) result }
 {
     let mut text = [0u8; IMAGE_TEXT];
@@ -28,7 +28,7 @@ pub fn write_new_image(rt: HostRuntime, i: usize, image: &[u64]) -> Writing
 }
 
 // Writes the file of data in the same way.
-pub fn write_new_data(rt: HostRuntime, i: usize, memory: &[u32]) -> Writing
+pub fn write_new_data(rt: HostRuntime, i: usize, memory: &[u32]) -> Option<Writing>
     ensures { NewWritten (is_data_length (length memory.now)) result }
 {
     let mut text = [0u8; DATA_TEXT];
@@ -36,7 +36,7 @@ pub fn write_new_data(rt: HostRuntime, i: usize, memory: &[u32]) -> Writing
 }
 
 // Writes the file of the whole disk in the same way.
-pub fn write_new_disk(rt: HostRuntime, i: usize, disk: &[u32]) -> Writing
+pub fn write_new_disk(rt: HostRuntime, i: usize, disk: &[u32]) -> Option<Writing>
     ensures { NewWritten (is_disk_length (length disk.now)) result }
 {
     let mut text = [0u8; DISK_TEXT];
@@ -44,7 +44,7 @@ pub fn write_new_disk(rt: HostRuntime, i: usize, disk: &[u32]) -> Writing
 }
 
 // Writes the file of the frame in the same way.
-pub fn write_new_frame(rt: HostRuntime, i: usize, frame: &[u8]) -> Writing
+pub fn write_new_frame(rt: HostRuntime, i: usize, frame: &[u8]) -> Option<Writing>
     ensures { NewWritten (is_frame_length (length frame.now)) result }
 {
     let mut text = [0u8; FRAME_TEXT];
@@ -52,32 +52,19 @@ pub fn write_new_frame(rt: HostRuntime, i: usize, frame: &[u8]) -> Writing
 }
 
 // Writes bytes as a new file, under the name that an argument gives.
-pub fn write_new_bytes(rt: HostRuntime, i: usize, bytes: &[u8]) -> Writing
-    ensures { Begun result }
-{
-    let mut name = [0u8; NAME];
-    let n = argument(rt, i, &mut name);
-    write_new_file(rt, &name[..n], bytes)
+pub fn write_new_bytes(rt: HostRuntime, i: usize, bytes: &[u8]) -> Option<Writing> {
+    write_new_file(rt, Name::of_argument(rt, i).bytes(), bytes)
 }
 
 // Writes a text that a writer filled; says why where it was refused.
-pub fn write_new_text(rt: HostRuntime, i: usize, written: Written, text: &[u8]) -> Writing
+pub fn write_new_text(
+    rt: HostRuntime,
+    i: usize,
+    written: Result<usize, WriteError>,
+    text: &[u8],
+) -> Option<Writing>
     ensures { NewWritten (eqb (written_outcome written).number 0) result }
 {
-    let outcome = written.outcome();
-    if outcome.number != 0 {
-        return unwritten(rt, i, outcome);
-    }
+    accept_at(rt, i, counted(written))?;
     write_new_bytes(rt, i, text)
-}
-
-// Says why a file is not written.
-pub fn unwritten(rt: HostRuntime, i: usize, outcome: Outcome) -> Writing
-    ensures { result ≡ no_file }
-{
-    refuse_at(rt, i, outcome.number, outcome.place);
-    Writing {
-        file: None,
-        is_new: false,
-    }
 }

@@ -1,4 +1,5 @@
 // The names of I/O registers, put into a text.
+// Stays (1, 2, 4, 7): each name is put as bytes known when it is compiled, which is fast; two matches, since one is over 40 lines; a number without a name has no text.
 #![tactic(auto)]
 
 ghost use Rattle.std.specs.Prelude.{◌+◌, ◌≤◌, length};

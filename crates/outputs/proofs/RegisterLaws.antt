@@ -1,19 +1,16 @@
 -- The registers' names and numbers, and their lines, as the code puts them. Assumes nothing.
-use Prim.Native.Nat.{ℕ, ◌+◌, ◌-◌, ◌*◌, ◌≤◌, ◌<◌}
+use Prim.Native.Nat.{ℕ, ◌+◌, ◌≤◌, ◌<◌}
 use mathlib.Core.Path.{◌≡◌, refl}
 use mathlib.Core.List.{List, [], ◌∷◌, ◌++◌, append_assoc}
 use native.Mathlib.Omega.{arith}
 use lib.Dec.{eqb}
-use lib.ListN.{length, get_or, take, drop, length-append}
+use lib.ListN.{length, get_or, length-append}
 use borrow.Author.Tests.{eqb-true}
-use Rattle.text.specs.Bytes.{bytes}
 use Rattle.text.specs.Lines.{LF}
 use Rattle.text.specs.Numerals.{digits}
 use Rattle.text.specs.Place.{put}
-use Rattle.text.specs.Same.{same}
 use Rattle.text.proofs.DigitLaws.{length_digits}
 use Rattle.text.proofs.Truth.{below, between}
-use Rattle.text.proofs.SameLaws.{table_rule}
 use Rattle.trace.specs.LogLines.{field}
 use Rattle.isa.specs.Registers.{register_name}
 use Rattle.outputs.specs.RecordText.{word_line, saved_registers, saved_io}
@@ -27,25 +24,10 @@ word-put name x at p q d e f first second t =
     rw append_assoc
     (joined d e f at p q name (field (digits 16 8 x) ++ (LF ∷ [])) first (second, simp (length-append, length_digits) (omega arith)))
 
--- The names of R3 to R15, three bytes each.
-abbrev pub names : List ℕ
-names = bytes "$v0$a0$a1$a2$t0$t1$t2$s0$s1$s2$gp$sp$ra"
-
-name-length : (i : ℕ) → i < 13 → length (register_name (3 + i)) ≡ 3
+-- The names of R3 to R15 have three bytes each.
+pub name-length : (i : ℕ) → i < 13 → length (register_name (3 + i)) ≡ 3
 unfolding register_name
 name-length i h = eqb-true _ _ (below (λ k. eqb (length (register_name (3 + k))) 3) 13 refl i h)
-
-name-part : (i : ℕ) → i < 13 → take 3 (drop (i * 3) names) ≡ register_name (3 + i)
-unfolding register_name same
-name-part = table_rule (λ k. take 3 (drop (k * 3) names)) (λ k. register_name (3 + k)) 13 refl
-
-pub register-put : (i x at p q : ℕ) (d e f : List ℕ) → i < 13 → Piece d at (take (i * 3 + 3 - i * 3) (drop (i * 3) names)) e p
-    → f ≡ put e p (field (digits 16 8 x) ++ (LF ∷ [])) → q ≡ p + 10
-    → Piece d at (word_line (register_name (3 + i)) x ++ (LF ∷ [])) f q × (q ≡ at + 13)
-register-put i x at p q d e f h first second t =
-    let three : i * 3 + 3 - i * 3 ≡ 3 = omega arith in
-    let name : Piece d at (register_name (3 + i)) e p = rw (three, name-part i h) at first in
-    (word-put (register_name (3 + i)) x at p q d e f name second t, omega (arith, name.1, name-length i h))
 
 -- The numbers of the registers in turn, ..
 pub register-number : (i : ℕ) → i < 13 → 3 + i ≡ get_or saved_registers i 0

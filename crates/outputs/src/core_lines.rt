@@ -1,4 +1,5 @@
-// The scalars of a record, a line each.
+// The scalars of a record, a line each. (The status and PC have functions of their own: their lines have another form, which their contracts name.)
+// Stays (1, 2, 4): no heap: a line goes to a place of a lent buffer, whose bytes the contract states; status and PC have lines of another form.
 ghost use Rattle.std.specs.Prelude.{◌≡◌, [], ◌∷◌, ◌++◌, ◌+◌, ◌≤◌, length};
 ghost use Rattle.text.specs.Lines.{LF as lf, unlines};
 ghost use Rattle.text.specs.Place.{put, PutsWithin};

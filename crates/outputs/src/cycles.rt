@@ -1,4 +1,5 @@
 // cycles.txt.
+// Stays (4): no heap: the text goes to the front of a lent buffer, whose bytes the contract states.
 ghost use Rattle.std.specs.Prelude.{◌≡◌, ◌≤◌, length};
 ghost use Rattle.text.specs.Place.{put};
 ghost use Rattle.console.specs.Counts.{IsPrefixLen};

@@ -1,5 +1,6 @@
 // The texts that the programs write and print of a run: the files of its log's lines, the registers and the cycles, why it stopped, and a saved
 // record by its fields.
+// Stays (6): the four texts are lent apart, so their lengths stand apart.
 #![tactic(auto)]
 
 mod core_lines;
@@ -22,7 +23,7 @@ pub use reason::put_reason;
 pub use record::put_record;
 pub use registers::put_registers;
 
-// How many bytes each of the four texts has that a log is split into.
+// How many bytes each of the four texts has that a log is split into. (The texts are lent apart, so their lengths stand apart.)
 #[derive(Clone, Copy)]
 pub struct Split {
     pub trace: usize,

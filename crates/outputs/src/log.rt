@@ -1,4 +1,5 @@
 // The lines of a log, by their letter.
+// Stays (1, 3, 4, 6, 7): the letter is the log's own byte, which `LogFiles.line_with` compares; the loop goes from line to line by `line_end`, which looks at a block of bytes at a time; the four texts are lent apart (no heap).
 ghost use Rattle.std.specs.Prelude.{◌+◌, ◌≤◌, length};
 ghost use Rattle.text.specs.Place.{PutsWithin};
 ghost use Rattle.outputs.specs.LogFiles.{letter_t, letter_h, letter_l, letter_d, line_with, Taken};
@@ -8,7 +9,7 @@ use text::lines::{LF, line_end};
 use text::place::put_bytes;
 
 // Splits a log: puts the lines that begin with T, H, L and D, each without the letter and the blank after it, at the fronts of four texts, and
-// returns how many bytes each has.
+// returns how many bytes each has. (The loop goes from line to line: `line_end` looks at a block of bytes at a time, where a `split` would look at each byte.)
 pub fn split_log(
     log: &[u8],
     trace: &mut [u8],
@@ -41,7 +42,7 @@ pub fn split_log(
 }
 
 // Puts a line that begins with the letter, without the letter and the blank after it, and an LF at a place and returns the place after them; of
-// another line puts nothing.
+// another line puts nothing. (The letter is the log's own byte, which `LogFiles.line_with` compares.)
 fn put_taken(line: &[u8], letter: u8, out: &mut [u8], at: usize) -> usize
     requires { at + length line.now ≤ length out.old }
     ensures { PutsWithin (length line.now) out.old at (line_with letter line.now) result out.new }

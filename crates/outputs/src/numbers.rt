@@ -1,4 +1,5 @@
 // A number on a line.
+// Stays (2, 4): no heap: the line goes to a place of a lent buffer, whose bytes the contract states.
 ghost use Rattle.std.specs.Prelude.{◌≡◌, [], ◌∷◌, ◌++◌, ◌+◌, ◌≤◌, length};
 ghost use Rattle.text.specs.Lines.{LF as lf};
 ghost use Rattle.text.specs.Numerals.{decimal};

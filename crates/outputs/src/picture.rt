@@ -1,4 +1,5 @@
 // The picture of a frame.
+// Stays (4): no heap: the picture goes to the front of a lent buffer, whose bytes the contract states.
 ghost use Rattle.std.specs.Prelude.{◌≡◌, ◌+◌, ◌≤◌, length};
 ghost use Rattle.console.specs.Counts.{IsPrefixLen};
 ghost use Rattle.text.specs.Place.{put};

@@ -1,4 +1,5 @@
 // Where and why a run stopped.
+// Stays (2, 4, 7): with a `match` the last arm would know nothing of 0 and 1, which the contract needs; the line goes to a place of a lent buffer (no heap); the limit is document 01's number.
 ghost use Rattle.std.specs.Prelude.{◌+◌, ◌≤◌, length, ◌≡◌};
 ghost use Rattle.text.specs.Place.{put, PutsWithin};
 ghost use Rattle.console.specs.Counts.{IsPrefixLen};
@@ -26,7 +27,7 @@ pub fn put_reason(core: Core, out: &mut [u8], at: usize) -> usize
     end + 1
 }
 
-// Why a run stopped.
+// Why a run stopped. (With a `match` the last arm would know nothing of 0 and 1, which the contract needs.)
 fn put_cause(core: Core, out: &mut [u8], at: usize) -> usize
     requires { at + 60 ≤ length out.old }
     ensures { PutsWithin 60 out.old at (cause_of core) result out.new }

@@ -1,5 +1,6 @@
 // What a status means, in words.
-ghost use Rattle.std.specs.Prelude.{◌≡◌, ◌++◌, ◌+◌, ◌≤◌, ◌<◌, length};
+// Stays (1, 2, 4, 6): the status is document 01's number, and `Statuses.status_words` gives no words of another; the words go to a place of a lent buffer (no heap).
+ghost use Rattle.std.specs.Prelude.{◌≡◌, ◌++◌, ◌+◌, ◌≤◌, length};
 ghost use Rattle.text.specs.Numerals.{decimal};
 ghost use Rattle.text.specs.Place.{put, PutsWithin};
 ghost use Rattle.outputs.specs.Statuses.{status_words};
@@ -7,12 +8,15 @@ ghost use Rattle.outputs.specs.Statuses.{status_words};
 use text::decimal::put_decimal;
 use text::place::put_bytes;
 
-// The words of the statuses, each filled up with blanks to 42 bytes, ..
-const WORDS: [u8; 252] =
-    *b"running                                   halted                                    the opcode is above 21                    the data address is above 4095            the I/O register is not listed            diskbuffer is above 3968 at a disk command";
-
-// .. and how many bytes they have.
-const LENGTHS: [usize; 6] = [7, 6, 22, 30, 30, 42];
+// The words of the statuses.
+const WORDS: [&str; 6] = [
+    "running",
+    "halted",
+    "the opcode is above 21",
+    "the data address is above 4095",
+    "the I/O register is not listed",
+    "diskbuffer is above 3968 at a disk command",
+];
 
 // Puts a status at a place, what stands in front of its number, the number, what stands between, and its words; returns the place after them.
 pub fn put_status(front: &[u8], status: u32, between: &[u8], out: &mut [u8], at: usize) -> usize
@@ -30,20 +34,16 @@ fn put_status_words(out: &mut [u8], at: usize, status: u32) -> usize
     requires { at + 42 ≤ length out.old }
     ensures { PutsWithin 42 out.old at (status_words status) result out.new }
 {
-    if 5 < status {
-        return at;
-    }
-    let words = WORDS;
-    let n = status as usize;
-    let from = n * 42;
-    let to = from + words_length(n);
-    put_bytes(out, at, &words[from..to])
+    put_bytes(out, at, status_words(status))
 }
 
-// How many bytes the words of a status have; 42 at most.
-fn words_length(n: usize) -> usize
-    requires { n < 6 }
-    ensures { (result ≡ length (status_words n)) × (result ≤ 42) }
+// The words of a status; none of a number that is no status.
+fn status_words(status: u32) -> &'static [u8]
+    ensures is { result.now ≡ status_words status }
+    ensures most { length result.now ≤ 42 }
 {
-    LENGTHS[n]
+    if 5 < status {
+        return b"";
+    }
+    WORDS[status as usize].as_bytes()
 }

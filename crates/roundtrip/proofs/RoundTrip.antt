@@ -14,13 +14,14 @@ use Rattle.text.specs.Lines.{lines}
 use Rattle.files.specs.Sizes.{image_words, data_words}
 use Rattle.files.specs.MemoryFile.{low48, SameImage}
 use Rattle.files.proofs.ReturnTrip.{same-image_returns}
-use Rattle.assembler.specs.declared.Assembled.{Assembled}
+use Rattle.std.proofs.Common.{Result}
+use Rattle.assembler.specs.declared.AssembleError.{AssembleError}
 use Rattle.assembler.specs.Answers.{assembled_outcome}
 use Rattle.statements.specs.Questions.{line_questions}
 use Rattle.assembler.specs.Questions.{text_outcome, assemble_outcome}
 use Rattle.assembler.specs.Memories.{code_of, assembled_image, stored, assembled_data}
 use Rattle.assembler.specs.Promises.{Assembling}
-use Rattle.lister.specs.declared.Listed.{Listed}
+use Rattle.lister.specs.declared.ListError.{ListError}
 use Rattle.lister.specs.Listing.{listing}
 use Rattle.lister.specs.Calls.{KnownOpcodes, listed_outcome, list_outcome, TextListed}
 use Rattle.lister.specs.Used.{IsZero, Used}
@@ -77,7 +78,7 @@ listing-same-image words whole known = rw (listing-image words known) (same-imag
 -- n bytes are assembled into any image and data memory of the right lengths, whatever they held. Then a, which is answered, tells no refusal, and the
 -- memories are `image_after` and `memory_after`: the words, with zeros above bit 47, and zeros after them; and zeros. Of the words nothing is asked: that the
 -- lister accepted them tells that their opcodes are known.
-pub listed_assembles : (words out : List ℕ) (r : Listed) (after : List ℕ) (n : ℕ) (image memory : List ℕ) (a : Assembled) (image_after memory_after : List ℕ)
+pub listed_assembles : (words out : List ℕ) (r : Result ℕ ListError) (after : List ℕ) (n : ℕ) (image memory : List ℕ) (a : Result (Unit {0}) AssembleError) (image_after memory_after : List ℕ)
     → TextListed words out r after → listed_outcome r ≡ accepted n
     → length image ≡ image_words → length memory ≡ data_words
     → Assembling (take n after) image memory a image_after memory_after
@@ -89,7 +90,7 @@ listed_assembles words out r after n image memory a image_after memory_after lis
     (outcome, rw outcome at p.words ∙ listing-image words is.known, rw outcome at p.memory_words ∙ listing_data words is.known)
 
 -- An image that was listed whole comes back.
-pub listed-image_returns : (words out : List ℕ) (r : Listed) (after : List ℕ) (n : ℕ) (image memory : List ℕ) (a : Assembled) (image_after memory_after : List ℕ)
+pub listed-image_returns : (words out : List ℕ) (r : Result ℕ ListError) (after : List ℕ) (n : ℕ) (image memory : List ℕ) (a : Result (Unit {0}) AssembleError) (image_after memory_after : List ℕ)
     → TextListed words out r after → listed_outcome r ≡ accepted n
     → length image ≡ image_words → length memory ≡ data_words
     → Assembling (take n after) image memory a image_after memory_after
@@ -117,7 +118,7 @@ module _ (words : List ℕ) (n : ℕ) (used : Used words n) (whole : length word
       let within = used.within in
       rw (length-take-le n words within, zeros_after n (image_words - n) words (omega arith) used.rest) (same-image_returns words)
 
-  pub used_returns : (out : List ℕ) (r : Listed) (after : List ℕ) (m : ℕ) (image memory : List ℕ) (a : Assembled) (image_after memory_after : List ℕ)
+  pub used_returns : (out : List ℕ) (r : Result ℕ ListError) (after : List ℕ) (m : ℕ) (image memory : List ℕ) (a : Result (Unit {0}) AssembleError) (image_after memory_after : List ℕ)
       → TextListed (take n words) out r after → listed_outcome r ≡ accepted m
       → length image ≡ image_words → length memory ≡ data_words
       → Assembling (take m after) image memory a image_after memory_after

@@ -9,7 +9,6 @@ use borrow.Author.Tests.{eqb-true}
 use Rattle.text.proofs.Truth.{below}
 use Rattle.isa.specs.Operations.{operation_names, operation_name}
 use Rattle.isa.specs.Registers.{register_names, register_name}
-use Rattle.source.specs.Bytes.{are_all}
 use Rattle.text.specs.Same.{same}
 use Rattle.source.specs.Names.{is_name, is_register}
 use Rattle.source.specs.Lookup.{is_among, place_of}
@@ -23,7 +22,7 @@ pub record OperationToken (k : ℕ) (t : List ℕ) : Type 0 where
   pub place : place_of operation_names t ≡ k
 
 pub operation-token : (k : ℕ) → k ≤ 21 → OperationToken k (operation_name k)
-unfolding operation_name operation_names are_all is_name is_among place_of same
+unfolding operation_name operation_names is_name is_among place_of same
 operation-token k h =
     let known : k < 22 = omega arith in
     record {
@@ -41,7 +40,7 @@ pub record RegisterToken (k : ℕ) (t : List ℕ) : Type 0 where
   pub place : place_of register_names t ≡ k
 
 pub register-token : (k : ℕ) → k < 16 → RegisterToken k (register_name k)
-unfolding register_name register_names are_all is_register is_among place_of same
+unfolding register_name register_names is_register is_among place_of same
 register-token k h =
     record {
       written = is-written (register_name k) (below (λ n. is_written (register_name n)) 16 refl k h);

@@ -13,6 +13,7 @@ use Rattle.text.specs.Numerals.{is_between, digit_value, all_digits, value, deci
 use Rattle.text.proofs.Truth.{and_left, and_right, all_below, between}
 use Rattle.text.proofs.DecimalLaws.{count_pos, count_le, length-decimal, all-decimal, value-decimal}
 use Rattle.source.specs.declared.Number.TheVariants.{Decimal, Minus}
+use Rattle.std.proofs.Common.{Some}
 use Rattle.source.specs.Bytes.{are_all}
 use Rattle.source.specs.Numbers.{number, is_number}
 use Rattle.source.proofs.NumberLaws.{no_front}
@@ -51,7 +52,7 @@ digit_passes test all-ten c e =
     between test 48 58 all-ten c low (omega arith)
 
 plain-digits : (s : List ℕ) → all_digits 10 s ≡ true → are_all is_plain s ≡ true
-unfolding all_digits are_all
+unfolding all_digits
 plain-digits [] e = refl
 plain-digits (c ∷ s) e =
     let here = and_left (ltb (digit_value c) 10) (all_digits 10 s) e in
@@ -61,11 +62,11 @@ plain-digits (c ∷ s) e =
 -- ---- digits read as a number
 
 module _ (s : List ℕ) (some : 1 ≤ length s) (few : length s ≤ 10) (e : all_digits 10 s ≡ true) where
-  number_digits : number s ≡ Decimal (value 10 s)
+  number_digits : number s ≡ Some (Decimal (value 10 s))
   unfolding number all_digits
-  number_digits = rw (no_front 10 (bytes "-") refl s e, no_front 10 (bytes "0x") refl s e, no_front 10 (bytes "0b") refl s e, le-leb 1 (length s) some, le-leb (length s) 10 few, e)
+  number_digits = rw (no_front 10 (bytes "0x") refl s e, no_front 10 (bytes "0b") refl s e, no_front 10 (bytes "-") refl s e, le-leb 1 (length s) some, le-leb (length s) 10 few, e)
 
-  number-minus : number (bytes "-" ++ s) ≡ Minus (value 10 s)
+  number-minus : number (bytes "-" ++ s) ≡ Some (Minus (value 10 s))
   unfolding number same
   number-minus = rw (le-leb 1 (length s) some, le-leb (length s) 10 few, e)
 
@@ -85,17 +86,16 @@ module _ (v : ℕ) (h : v < 10 ^ 4) where
   few : length (decimal v) ≤ 10
   few = rw length-decimal (omega (arith, count_le 10 (omega arith) 3 v h))
 
-  number-decimal : number (decimal v) ≡ Decimal v
-  number-decimal = number_digits (decimal v) some few (all-decimal v) ∙ ap Decimal (value-decimal v)
+  number-decimal : number (decimal v) ≡ Some (Decimal v)
+  number-decimal = number_digits (decimal v) some few (all-decimal v) ∙ ap (λ (n : ℕ). Some (Decimal n)) (value-decimal v)
 
-  number-minus-decimal : number (bytes "-" ++ decimal v) ≡ Minus v
-  number-minus-decimal = number-minus (decimal v) some few (all-decimal v) ∙ ap Minus (value-decimal v)
+  number-minus-decimal : number (bytes "-" ++ decimal v) ≡ Some (Minus v)
+  number-minus-decimal = number-minus (decimal v) some few (all-decimal v) ∙ ap (λ (n : ℕ). Some (Minus n)) (value-decimal v)
 
   written-decimal : Written (decimal v)
   written-decimal = record { some = some; plain = plain-digits (decimal v) (all-decimal v) }
 
   written-minus-decimal : Written (bytes "-" ++ decimal v)
-  unfolding are_all
   written-minus-decimal = record { some = omega arith; plain = plain-digits (decimal v) (all-decimal v) }
 
 pub immediate-token : (i : ℕ) → i < 2 ^ 12 → ImmediateToken i (signed_decimal i)

@@ -43,19 +43,17 @@ plain_byte b e =
 -- ---- each byte of a text
 
 pub all_append : (test : ℕ → Bool) (s t : List ℕ) → are_all test s ≡ true → are_all test t ≡ true → are_all test (s ++ t) ≡ true
-unfolding are_all
 all_append test [] t e f = f
 all_append test (b ∷ s) t e f = rw (and_left (test b) (are_all test s) e, all_append test s t (and_right (test b) (are_all test s) e) f)
 
 plain-allowed : (t : List ℕ) → are_all is_plain t ≡ true → are_all is_allowed t ≡ true
-unfolding are_all
 plain-allowed [] e = refl
 plain-allowed (b ∷ t) e =
     rw ((plain_byte b (and_left (is_plain b) (are_all is_plain t) e)).allowed, plain-allowed t (and_right (is_plain b) (are_all is_plain t) e))
 
 -- No allowed byte is an LF.
 pub allowed_no_lf : (t : List ℕ) → are_all is_allowed t ≡ true → NoLF t
-unfolding are_all NoLF
+unfolding NoLF
 allowed_no_lf [] e = tt
 allowed_no_lf (b ∷ t) e = (
   (λ q. false≢true (sym (ap is_allowed q) ∙ and_left (is_allowed b) (are_all is_allowed t) e)),
@@ -86,7 +84,7 @@ texts-joined p b [] u us e = cc
 texts-joined p b (t ∷ ts) u us e = cc
 
 reads_bytes : (b : ℕ) (t r : List ℕ) (ts : List (List ℕ)) → are_all is_plain (b ∷ t) ≡ true → stops r ≡ true → Reads r ts → Reads (b ∷ (t ++ r)) ((b ∷ t) ∷ ts)
-unfolding are_all tokens_from
+unfolding tokens_from
 reads_bytes b [] r ts e s h p =
     let plain = plain_byte b (and_left (is_plain b) true e) in
     rw (plain.blank, plain.comment, not_joined b r s, h (p + 1))
@@ -140,7 +138,7 @@ reads_separated (t ∷ u ∷ ts) w p =
     p
 
 allowed-separated : (ts : List (List ℕ)) → AllWritten ts → are_all is_allowed (separated ts) ≡ true
-unfolding separated are_all
+unfolding separated
 allowed-separated [] w = refl
 allowed-separated (t ∷ []) w = plain-allowed t w.0.plain
 allowed-separated (t ∷ u ∷ ts) w = all_append is_allowed t _ (plain-allowed t w.0.plain) (allowed-separated (u ∷ ts) w.1)
@@ -153,5 +151,4 @@ module _ (op : List ℕ) (ts : List (List ℕ)) (o : Written op) (w : AllWritten
   reads_line = reads_token op (bytes " " ++ separated ts) (with_commas ts) o refl (λ p. reads_separated ts w (p + 1))
 
   pub allowed-line : are_all is_allowed (op ++ (bytes " " ++ separated ts)) ≡ true
-  unfolding are_all
   allowed-line = all_append is_allowed op _ (plain-allowed op o.plain) (allowed-separated ts w)

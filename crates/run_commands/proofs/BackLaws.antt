@@ -5,6 +5,7 @@ use mathlib.Core.Bool.{Bool, true, false, true≢false, not, ◌&&◌}
 use mathlib.Core.Logic.{⊎_elim}
 use mathlib.Core.List.{List}
 use lib.ListN.{length}
+use Rattle.std.specs.Prelude.{Option}
 use borrow.Author.Tests.{not-true}
 use Rattle.text.proofs.Truth.{and_left, and_right}
 use Rattle.console.specs.declared.Writing.{Writing}
@@ -12,37 +13,20 @@ use Rattle.console.specs.Writings.{is_no_file, Ended, Committed}
 use Rattle.files.specs.Sizes.{is_data_length, is_disk_length, is_frame_length}
 use Rattle.machine.specs.declared.Record.{Record}
 use Rattle.saved.specs.Sound.{is_sound}
-use Rattle.saved.specs.Calls.{fresh_record}
-use Rattle.memories.specs.declared.RecordRead.{RecordRead}
-use Rattle.memories.specs.Records.{FreshRead}
 use Rattle.memories.specs.NewFiles.{NewWritten}
-use Rattle.run_commands.specs.declared.LogFiles.{LogFiles}
-use Rattle.run_commands.specs.Logs.{are_open}
 use Rattle.run_commands.specs.Back.{are_written, CanBeBack}
 
 -- What is written is right.
-pub written-right : (is_right : Bool) {w : Writing} → NewWritten is_right w → is_no_file w ≡ false → is_right ≡ true
+pub written-right : (is_right : Bool) {w : Option Writing} → NewWritten is_right w → is_no_file w ≡ false → is_right ≡ true
 written-right true new e = refl
-written-right false new e = absurd (true≢false (sym (rw (new.refused refl)) ∙ e))
+written-right false new e = absurd (true≢false (sym (rw (new refl)) ∙ e))
 
 -- A file that was closed and committed was open.
-pub committed_open : (w : Writing) {v : Writing} {r : Bool} → Ended w v → Committed v r → r ≡ true → not (is_no_file w) ≡ true
-committed_open w ended committed e = ⊎_elim (λ same. rw (← same, committed.written e)) (λ none. absurd (true≢false (sym (rw none) ∙ committed.written e))) ended
-
--- Each of four logs that was committed was open.
-pub logs_open : (l : LogFiles) (k₁ k₂ k₃ k₄ : Bool)
-    → (k₁ ≡ true → not (is_no_file l.trace) ≡ true)
-    → (k₂ ≡ true → not (is_no_file l.hwregtrace) ≡ true)
-    → (k₃ ≡ true → not (is_no_file l.leds) ≡ true)
-    → (k₄ ≡ true → not (is_no_file l.display7seg) ≡ true)
-    → (k₁ && k₂ && k₃ && k₄) ≡ true → are_open l ≡ true
-logs_open l k₁ k₂ k₃ k₄ trace hwregtrace leds display7seg all =
-    let three = and_left (k₁ && k₂ && k₃) k₄ all in
-    let two = and_left (k₁ && k₂) k₃ three in
-    rw (trace (and_left k₁ k₂ two), hwregtrace (and_right k₁ k₂ two), leds (and_right (k₁ && k₂) k₃ three), display7seg (and_right (k₁ && k₂ && k₃) k₄ all))
+pub committed_open : (w : Option Writing) {v : Option Writing} {r : Bool} → Ended w v → Committed v r → r ≡ true → is_no_file w ≡ false
+committed_open w ended committed e = ⊎_elim (λ same. rw (← same) (committed.written e)) (λ none. absurd (true≢false (sym (rw none) ∙ committed.written e))) ended
 
 -- Where five files are whole, what they are written from is right.
-module _ (log d k f r : Writing) (all : are_written log d k f r ≡ true) where
+module _ (log d k f r : Option Writing) (all : are_written log d k f r ≡ true) where
   pub can_be_back : {state : Record} {memory disk frame : List ℕ}
       → NewWritten (is_data_length (length memory)) d
       → NewWritten (is_disk_length (length disk)) k
@@ -64,7 +48,3 @@ module _ (log d k f r : Writing) (all : are_written log d k f r ≡ true) where
         disk-length = written-right (is_disk_length (length disk)) disk-written (not-true (is_no_file k) (and_right (a && b) c three));
         frame-length = written-right (is_frame_length (length frame)) frame-written (not-true (is_no_file f) (and_right (a && b && c) e four));
       }
-
--- The fresh record, whole.
-pub fresh-is : (is_read : Bool) (r : RecordRead) → FreshRead is_read r → r ≡ record { state = fresh_record; is_read = is_read }
-fresh-is is_read r fresh = rw (← fresh.state, ← fresh.read)

@@ -1,26 +1,22 @@
 // The files that the lines of a log go to: the 7th, 8th, 10th and 11th of the fourteen.
-ghost use Rattle.std.specs.Prelude.{◌≡◌, true, ◌+◌, ◌^◌, ◌<◌};
-ghost use Rattle.run_commands.specs.Logs.{are_open, LogsBegun};
+// Stays (1, 2, 7): the four files have names and places of their own; each is tried, and the answers are joined.
+ghost use Rattle.std.specs.Prelude.{◌≡◌, true, false, ◌+◌, ◌^◌, ◌<◌};
+ghost use Rattle.console.specs.Writings.{is_no_file};
+ghost use Rattle.run_commands.specs.Logs.{are_open};
 
 use crate::LogFiles;
-use crate::ends::both;
-use console::is_no_file;
-use memories::{abandon_at, begin_at, commit_at, end_at};
+use console::Writing;
+use memories::{begin_at, commit_at, drop_at, end_at};
 
 // Begins them.
 pub fn begin_logs(rt: HostRuntime, first: usize) -> LogFiles
     requires { first + 14 < 2 ^ 64 }
-    ensures { LogsBegun result }
 {
-    let trace = begin_at(rt, first + 6);
-    let hwregtrace = begin_at(rt, first + 7);
-    let leds = begin_at(rt, first + 9);
-    let display7seg = begin_at(rt, first + 10);
     LogFiles {
-        trace: trace,
-        hwregtrace: hwregtrace,
-        leds: leds,
-        display7seg: display7seg,
+        trace: begin_at(rt, first + 6),
+        hwregtrace: begin_at(rt, first + 7),
+        leds: begin_at(rt, first + 9),
+        display7seg: begin_at(rt, first + 10),
     }
 }
 
@@ -28,26 +24,20 @@ pub fn begin_logs(rt: HostRuntime, first: usize) -> LogFiles
 pub fn are_open(logs: &LogFiles) -> bool
     ensures { result ≡ are_open logs.now }
 {
-    if is_no_file(&logs.trace) {
-        return false;
-    }
-    if is_no_file(&logs.hwregtrace) {
-        return false;
-    }
-    if is_no_file(&logs.leds) {
-        return false;
-    }
-    !is_no_file(&logs.display7seg)
+    logs.trace.is_some()
+        && logs.hwregtrace.is_some()
+        && logs.leds.is_some()
+        && logs.display7seg.is_some()
 }
 
 // Closes and removes them; the old ones stay.
-pub fn abandon_logs(rt: HostRuntime, first: usize, logs: LogFiles)
+pub fn drop_logs(rt: HostRuntime, first: usize, logs: LogFiles)
     requires { first + 14 < 2 ^ 64 }
 {
-    abandon_at(rt, first + 6, logs.trace);
-    abandon_at(rt, first + 7, logs.hwregtrace);
-    abandon_at(rt, first + 9, logs.leds);
-    abandon_at(rt, first + 10, logs.display7seg);
+    drop_at(rt, first + 6, logs.trace);
+    drop_at(rt, first + 7, logs.hwregtrace);
+    drop_at(rt, first + 9, logs.leds);
+    drop_at(rt, first + 10, logs.display7seg);
 }
 
 // Closes them and puts them into their places; answers whether all are there.
@@ -55,17 +45,16 @@ pub fn commit_logs(rt: HostRuntime, first: usize, logs: LogFiles) -> bool
     requires { first + 14 < 2 ^ 64 }
     ensures { result ≡ true → are_open logs ≡ true }
 {
-    let mut is_whole = commit_at(rt, first + 6, end_at(rt, first + 6, logs.trace));
-    is_whole = both(
-        is_whole,
-        commit_at(rt, first + 7, end_at(rt, first + 7, logs.hwregtrace)),
-    );
-    is_whole = both(
-        is_whole,
-        commit_at(rt, first + 9, end_at(rt, first + 9, logs.leds)),
-    );
-    both(
-        is_whole,
-        commit_at(rt, first + 10, end_at(rt, first + 10, logs.display7seg)),
-    )
+    let trace = commit_log(rt, first + 6, logs.trace);
+    let hwregtrace = commit_log(rt, first + 7, logs.hwregtrace);
+    let leds = commit_log(rt, first + 9, logs.leds);
+    let display7seg = commit_log(rt, first + 10, logs.display7seg);
+    trace && hwregtrace && leds && display7seg
+}
+
+// Closes one and puts it into its place; answers whether it is there.
+fn commit_log(rt: HostRuntime, i: usize, log: Option<Writing>) -> bool
+    ensures { result ≡ true → is_no_file log ≡ false }
+{
+    commit_at(rt, i, end_at(rt, i, log))
 }

@@ -1,4 +1,5 @@
 // How a run went, on standard output.
+// Stays (4, 6): the line is put by `outputs`, whose bytes are proved, into an array (no heap).
 use console::say;
 use long_run::print_line_e;
 use machine::Core;

@@ -1,23 +1,36 @@
 // What a resumed run starts from.
 ghost use Rattle.std.specs.Prelude.{◌≡◌, false};
+ghost use Rattle.run_commands.specs.declared.start.Start.TheVariants.{Saved};
 ghost use Rattle.run_commands.specs.Start.{StartRecord, StartFrame};
 
 use console::say;
-use memories::{
-    RecordRead, fresh, is_device_at, is_missing_at, load_frame_at, load_record_at, say_at,
-};
+use machine::Record;
+use memories::{is_device_at, is_missing_at, load_frame_at, load_record_at, say_at};
+use saved::fresh_record;
+
+// How a resumed run starts.
+#[derive(Clone, Copy, PartialEq, Eq)]
+pub enum Start {
+    // With the fresh record: there is no saved one.
+    Fresh,
+    // With a saved record.
+    Saved,
+}
+
+// How the run starts whose saved record an argument names.
+pub fn start_at(rt: HostRuntime, record: usize) -> Start {
+    if is_missing_at(rt, record) {
+        Start::Fresh
+    } else {
+        Start::Saved
+    }
+}
 
 // Whether a run that starts fresh would go on with a log that is there, as with a record's name that is mistaken; says so.
-pub fn is_log_without_record(rt: HostRuntime, log: usize, is_fresh: bool) -> bool
-    ensures { is_fresh ≡ false → result ≡ false }
+pub fn is_log_without_record(rt: HostRuntime, log: usize, start: Start) -> bool
+    ensures { start ≡ Saved → result ≡ false }
 {
-    if !is_fresh {
-        return false;
-    }
-    if is_missing_at(rt, log) {
-        return false;
-    }
-    if is_device_at(rt, log) {
+    if start == Start::Saved || is_missing_at(rt, log) || is_device_at(rt, log) {
         return false;
     }
     say_at(
@@ -28,25 +41,25 @@ pub fn is_log_without_record(rt: HostRuntime, log: usize, is_fresh: bool) -> boo
     true
 }
 
-// The record that an argument names; the fresh one where there is none, as is said.
-pub fn start_record(rt: HostRuntime, i: usize, is_fresh: bool) -> RecordRead
-    ensures { StartRecord is_fresh result }
+// The record that an argument names, or none where it is refused, as is said; the fresh one where the run starts with it.
+pub fn start_record(rt: HostRuntime, i: usize, start: Start) -> Option<Record>
+    ensures { StartRecord start result }
 {
-    if is_fresh {
-        say(rt, b"no saved record: the run starts with the fresh one\n");
-        return fresh(true);
+    match start {
+        Start::Fresh => {
+            say(rt, b"no saved record: the run starts with the fresh one\n");
+            Some(fresh_record())
+        }
+        Start::Saved => load_record_at(rt, i),
     }
-    load_record_at(rt, i)
 }
 
-// Reads the frame that an argument names into one that is black, and answers whether it is accepted. A fresh run may have none.
-pub fn start_frame(rt: HostRuntime, i: usize, is_fresh: bool, frame: &mut [u8]) -> bool
-    ensures { StartFrame is_fresh result frame.old frame.new }
+// Reads the frame that an argument names into one that is black, if it is accepted. A fresh run may have none.
+pub fn start_frame(rt: HostRuntime, i: usize, start: Start, frame: &mut [u8]) -> Option<()>
+    ensures { StartFrame start result frame.old frame.new }
 {
-    if is_fresh {
-        if is_missing_at(rt, i) {
-            return true;
-        }
+    if start == Start::Fresh && is_missing_at(rt, i) {
+        return Some(());
     }
     load_frame_at(rt, i, frame)
 }

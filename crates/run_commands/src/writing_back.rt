@@ -1,8 +1,9 @@
 // The memories, the record and the log of a resumed run, written back.
+// Stays (1, 2, 7): each file's answer is the next one's question; the five are lent apart, since a file can't be in two places.
 ghost use Rattle.std.specs.Prelude.{◌≡◌, true, ◌+◌, ◌^◌, ◌<◌};
 ghost use Rattle.run_commands.specs.Back.{are_written, CanBeBack};
 
-use console::{Writing, is_no_file, say};
+use console::{Writing, say};
 use machine::Record;
 use memories::{
     commit_at, drop_at, write_new_data, write_new_disk, write_new_frame, write_new_record,
@@ -12,7 +13,7 @@ use memories::{
 pub fn write_back(
     rt: HostRuntime,
     first: usize,
-    log: Writing,
+    log: Option<Writing>,
     state: Record,
     memory: &[u32],
     disk: &[u32],
@@ -38,33 +39,27 @@ pub fn write_back(
 }
 
 // Whether five files are whole.
-fn are_written(a: &Writing, b: &Writing, c: &Writing, d: &Writing, e: &Writing) -> bool
+fn are_written(
+    a: &Option<Writing>,
+    b: &Option<Writing>,
+    c: &Option<Writing>,
+    d: &Option<Writing>,
+    e: &Option<Writing>,
+) -> bool
     ensures { result ≡ are_written a.now b.now c.now d.now e.now }
 {
-    if is_no_file(a) {
-        return false;
-    }
-    if is_no_file(b) {
-        return false;
-    }
-    if is_no_file(c) {
-        return false;
-    }
-    if is_no_file(d) {
-        return false;
-    }
-    !is_no_file(e)
+    a.is_some() && b.is_some() && c.is_some() && d.is_some() && e.is_some()
 }
 
 // Puts the log, the memories and the record into their places, up to the first that can't be; those after it are removed.
 fn commit_all(
     rt: HostRuntime,
     first: usize,
-    log: Writing,
-    d: Writing,
-    k: Writing,
-    f: Writing,
-    r: Writing,
+    log: Option<Writing>,
+    d: Option<Writing>,
+    k: Option<Writing>,
+    f: Option<Writing>,
+    r: Option<Writing>,
 ) -> bool
     requires { first + 8 < 2 ^ 64 }
 {
@@ -75,9 +70,9 @@ fn commit_all(
     commit_or_drop(rt, first + 4, r, is_committed)
 }
 
-// Puts a file into its place, or removes it.
-fn commit_or_drop(rt: HostRuntime, i: usize, w: Writing, is_wanted: bool) -> bool {
-    if is_wanted {
+// Puts a file into its place where those before it are in theirs, or removes it; answers whether it is there. (Each answer is the next file's question: a bool.)
+fn commit_or_drop(rt: HostRuntime, i: usize, w: Option<Writing>, is_committed: bool) -> bool {
+    if is_committed {
         return commit_at(rt, i, w);
     }
     drop_at(rt, i, w);

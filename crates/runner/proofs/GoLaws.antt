@@ -10,7 +10,6 @@ use native.Mathlib.Omega.{arith}
 use lib.Dec.{eqb, leb, ltb}
 use lib.ListN.{length, drop, get_or-map}
 use borrow.Author.Tests.{eq-eqb, leb-true, leb-false, lt-leb, le-leb, lt-ltb, le-ltb, not-true}
-use Rattle.text.specs.Questions.{accepted}
 use Rattle.text.specs.Place.{put}
 use Rattle.text.proofs.Truth.{and_left, and_right}
 use Rattle.files.specs.Sizes.{cycle_limit}
@@ -30,7 +29,7 @@ use Rattle.claim.proofs.Loop.{ask, Going, start, count, rest, same_length, next-
 use Rattle.runner.specs.declared.Ended.{Ended}
 use Rattle.runner.specs.Lab.{simp, code_of}
 use Rattle.irq2_list.specs.Places.{PlaceOf, is_at}
-use Rattle.runner.specs.Answers.{ran_outcome, ran_reason, reason_of, EndsRun}
+use Rattle.runner.specs.Answers.{reason_number, reason_of, EndsRun}
 use Rattle.irq2_list.proofs.PlaceLaws.{rises, in_by_place, next_place}
 
 -- ---- the room for a cycle's lines
@@ -142,18 +141,17 @@ module _ (image irq2 : List ℕ) (s : Machine) (budget : ℕ) (log₀ : List ℕ
 
     -- Where a run ends.
     ends : ask simp (code_of image irq2) budget (length log₀) n at now ≡ some (reason_of now.core n budget)
-        → (e : Ended) (m : Machine) → m ≡ now → e.cycles ≡ n → e.at ≡ at → ran_outcome e.answer ≡ accepted 0 → ran_reason e.answer ≡ reason_of now.core n budget
+        → (e : Ended) (m : Machine) → m ≡ now → e.cycles ≡ n → e.at ≡ at → reason_number e.reason ≡ reason_of now.core n budget
         → EndsRun (code_of image irq2) budget log₀ s e m log
-    ends q e m same cycles place accept why =
+    ends q e m same cycles place why =
         record {
-          outcome = accept;
           is = rw (same, cycles, place, why) (stop simp (code_of image irq2) s budget log₀ n at now log u.going (reason_of now.core n budget) q);
           count = rw place (count simp (code_of image irq2) s budget log₀ n at now log u.going);
           rest = rw place (rest simp (code_of image irq2) s budget log₀ n at now log u.going);
         }
 
     pub ends_last : now.core.age ≡ cond (ltb budget (cycle_limit - s.core.age)) (s.core.age + budget) cycle_limit → s.core.age + n ≡ now.core.age
-        → (e : Ended) (m : Machine) → m ≡ now → e.cycles ≡ n → e.at ≡ at → ran_outcome e.answer ≡ accepted 0 → ran_reason e.answer ≡ reason_of now.core n budget
+        → (e : Ended) (m : Machine) → m ≡ now → e.cycles ≡ n → e.at ≡ at → reason_number e.reason ≡ reason_of now.core n budget
         → EndsRun (code_of image irq2) budget log₀ s e m log
     ends_last h k = ends (asks-last image irq2 budget n at (length log₀) now u.within s.core.age k (ltb budget (cycle_limit - s.core.age)) refl h)
 
@@ -169,7 +167,7 @@ module _ (image irq2 : List ℕ) (s : Machine) (budget : ℕ) (log₀ : List ℕ
           (ap (λ (ls : List ℕ). goes now.core (length ls) (length log - at)) (sym (lines_are image irq2 hit now is_hit)) ∙ sym e)
 
       pub ends_there : (t : Bool) → t ≡ false → t ≡ goes now.core (length (lines_at_fetch image (at_fetch hit now))) (length log - at)
-          → (e : Ended) (m : Machine) → m ≡ now → e.cycles ≡ n → e.at ≡ at → ran_outcome e.answer ≡ accepted 0 → ran_reason e.answer ≡ reason_of now.core n budget
+          → (e : Ended) (m : Machine) → m ≡ now → e.cycles ≡ n → e.at ≡ at → reason_number e.reason ≡ reason_of now.core n budget
           → EndsRun (code_of image irq2) budget log₀ s e m log
       ends_there t stays is = ends (asks-some image irq2 budget n at (length log₀) now u.within (asked t is ∙ stays))
 

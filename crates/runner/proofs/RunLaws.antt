@@ -7,6 +7,7 @@ use lib.Dec.{eqb}
 use lib.ListN.{length, take, drop}
 use borrow.Author.Tests.{eqb-true}
 use Rattle.text.proofs.Truth.{and_left, and_right}
+use Rattle.text.specs.Questions.{accepted}
 use Rattle.files.specs.Irq2File.{rising}
 use Rattle.machine.specs.declared.Record.{Record}
 use Rattle.machine.specs.State.{Machine}
@@ -14,10 +15,11 @@ use Rattle.executor.specs.Lent.{packed, Sized}
 use Rattle.saved.specs.Sound.{is_sound}
 use Rattle.claim.specs.Calls.{none, Done, run_from, run_outcome, ran, run_call}
 use Rattle.runner.specs.declared.Ended.{Ended}
-use Rattle.runner.specs.declared.RunAnswer.{RunAnswer}
+use Rattle.runner.specs.declared.RunError.{RunError}
+use Rattle.std.proofs.Common.{Ok, Err}
 use Rattle.runner.specs.declared.RunReport.{RunReport}
 use Rattle.runner.specs.Lab.{simp, lab, code_of, record_in, machine_of, standing_of, are_lengths, Standing}
-use Rattle.runner.specs.Answers.{ran_outcome, ran_reason, done_of, EndsRun}
+use Rattle.runner.specs.Answers.{run_refusal, reason_number, done_of, EndsRun}
 
 -- ---- a run that is accepted
 
@@ -31,7 +33,7 @@ module _ (image irq2 memory disk frame log : List ℕ) (state : Record) (budget 
       → (e : Ended) (regs' io' memory' disk' frame' log' : List ℕ)
       → EndsRun (code_of image irq2) budget log (packed state.core regs state.io memory disk frame) e (packed e.core regs' io' memory' disk' frame') log'
       → (kept : List ℕ) → kept ≡ drop 3 regs'
-      → done_of (record { state = record { core = e.core; regs = kept; io = io' }; cycles = e.cycles; bytes = e.at; answer = e.answer }) image memory' disk' frame' log'
+      → done_of (record { state = record { core = e.core; regs = kept; io = io' }; cycles = e.cycles; bytes = e.at; answer = Ok e.reason }) image memory' disk' frame' log'
       ≡ ran lab (standing_of image state memory disk frame) log (run_from simp (code_of image irq2) budget (length log) (machine_of state memory disk frame))
   report regs h e regs' io' memory' disk' frame' log' x kept same =
       whole ∙ ap (ran lab (standing_of image state memory disk frame) log) (sym x.is ∙ ap (λ (m : Machine). run_from simp (code_of image irq2) budget (length log) m) (held regs h))
@@ -39,15 +41,15 @@ module _ (image irq2 memory disk frame log : List ℕ) (state : Record) (budget 
       rest : log' ≡ take e.at log' ++ drop (length (take e.at log')) log
       rest = x.rest ∙ ap (λ (n : ℕ). take e.at log' ++ drop n log) (sym x.count)
 
-      whole : done_of (record { state = record { core = e.core; regs = kept; io = io' }; cycles = e.cycles; bytes = e.at; answer = e.answer }) image memory' disk' frame' log'
+      whole : done_of (record { state = record { core = e.core; regs = kept; io = io' }; cycles = e.cycles; bytes = e.at; answer = Ok e.reason }) image memory' disk' frame' log'
           ≡ ran lab (standing_of image state memory disk frame) log
-          (record { state = packed e.core regs' io' memory' disk' frame'; cycles = e.cycles; lines = take e.at log'; reason = ran_reason e.answer })
+          (record { state = packed e.core regs' io' memory' disk' frame'; cycles = e.cycles; lines = take e.at log'; reason = reason_number e.reason })
       whole i =
           record {
-            outcome = x.outcome i;
+            outcome = accepted 0;
             cycles = e.cycles;
             bytes = sym x.count i;
-            reason = ran_reason e.answer;
+            reason = reason_number e.reason;
             log = rest i;
             lent = record { image = image; state = record { core = e.core; regs = same i; io = io'; memory = memory'; disk = disk'; frame = frame' } };
             trip-left = none;
@@ -63,22 +65,22 @@ module _ (w : Standing) (irq2 log : List ℕ) (budget : ℕ) where
   run-accepted a b c d e = rw (a, b, c) e
 
   -- The first that gets a no.
-  pub outcome-length : are_lengths w ≡ false → run_outcome lab irq2 w ≡ ran_outcome RunAnswer.WrongLength
+  pub outcome-length : are_lengths w ≡ false → run_outcome lab irq2 w ≡ run_refusal RunError.WrongLength
   outcome-length a = rw a
 
-  pub outcome-rising : are_lengths w ≡ true → rising irq2 ≡ false → run_outcome lab irq2 w ≡ ran_outcome RunAnswer.NotRising
+  pub outcome-rising : are_lengths w ≡ true → rising irq2 ≡ false → run_outcome lab irq2 w ≡ run_refusal RunError.NotRising
   outcome-rising a b = rw (a, b)
 
-  pub outcome-unsound : are_lengths w ≡ true → rising irq2 ≡ true → is_sound (record_in w.state) ≡ false → run_outcome lab irq2 w ≡ ran_outcome RunAnswer.Unsound
+  pub outcome-unsound : are_lengths w ≡ true → rising irq2 ≡ true → is_sound (record_in w.state) ≡ false → run_outcome lab irq2 w ≡ run_refusal RunError.Unsound
   outcome-unsound a b c = rw (a, b, c)
 
 -- A run that is refused hands back what it was lent.
-module _ (image irq2 memory disk frame log : List ℕ) (state : Record) (budget : ℕ) (answer : RunAnswer) where
-  pub run-refused : run_outcome lab irq2 (standing_of image state memory disk frame) ≡ ran_outcome answer → eqb (ran_outcome answer).number 0 ≡ false → ran_reason answer ≡ 0
-      → (r : RunReport) → (r.state ≡ state) × ((r.cycles ≡ 0) × ((r.bytes ≡ 0) × (r.answer ≡ answer)))
+module _ (image irq2 memory disk frame log : List ℕ) (state : Record) (budget : ℕ) (error : RunError) where
+  pub run-refused : run_outcome lab irq2 (standing_of image state memory disk frame) ≡ run_refusal error → eqb (run_refusal error).number 0 ≡ false
+      → (r : RunReport) → r ≡ record { state = state; cycles = 0; bytes = 0; answer = Err error }
       → done_of r image memory disk frame log ≡ run_call lab budget log irq2 (standing_of image state memory disk frame)
   unfolding run_call
-  run-refused outcome no_more reason r (s, (c, (b, a))) = rw (outcome, no_more, s, c, b, a, reason)
+  run-refused outcome no_more r e = rw (e, outcome, no_more)
 
 -- ---- tests
 

@@ -16,6 +16,7 @@ use Rattle.files.specs.Sizes.{image_digits, word_digits, frame_digits, is_image_
 use Rattle.files.specs.MemoryFile.{write_outcome as file_writes, read_outcome as file_reads}
 use Rattle.machine.specs.declared.Record.{Record}
 use Rattle.saved.specs.Layout.{saved_bytes}
+use Rattle.saved.specs.Answers.{loaded_record}
 use Rattle.saved.specs.Calls.{save_outcome, save_bytes, load_outcome, load_record}
 use Rattle.claim.specs.Calls.{Halves, halves, Done, Call, tripped, trip_call, call}
 use Rattle.claim.specs.Demand.{Trace, done, then}
@@ -91,7 +92,7 @@ module _ (v : Standing) (r : Record) (bytes sent : List ℕ) (t u : Outcome) (st
 trip-made : (v : Standing) {k : Kind} {out : Carried k} {space : List ℕ} {into : Carried k} {wrote : Outcome} {sent : List ℕ} {got : Outcome} {after : Carried k}
     → TripMade k out space into wrote sent got after → trip_done v k into wrote sent got after ≡ trip_call lab v k out space into
 unfolding trip_call
-trip-made v {out = out} {space = space} {into = into} {sent = sent} (by_record a l p q) = record_goes v out space sent _ _ l.state into p q
+trip-made v {out = out} {space = space} {into = into} {sent = sent} (by_record a l p q) = record_goes v out space sent _ _ (loaded_record l) into p q
 trip-made v {space = space} {into = into} {sent = sent} {after = after} (by_image w r p q) =
     goes_by image_digits _ is_image_length _ space into _ sent _ after p.answer p.bytes (λ h. ((q h).answer, (q h).words)) v (λ l. place the_image l v) (halves the_image)
 trip-made v {space = space} {into = into} {sent = sent} {after = after} (by_data w r p q) =

@@ -9,14 +9,13 @@ use Rattle.machine.specs.State.{Machine}
 use Rattle.machine.specs.Cycle.{stepped}
 use Rattle.machine.specs.Log.{Traced, traced, traced_on}
 use Rattle.machine.specs.Soundness.{Sound}
-use Rattle.executor.specs.Lent.{HaveText, Sized, packed}
+use Rattle.executor.specs.Lent.{Sized, packed}
 use Rattle.machine.proofs.SoundLaws.{SoundMachine, sound-cycle}
 use Rattle.machine.proofs.MemoryLaws.{KeepsLengths, lengths-kept}
 
 -- What a cycle asks of the parts that it is lent.
-pub record Turning (c : Core) (regs text io memory disk frame : List ℕ) : Type 0 where
+pub record Turning (c : Core) (regs io memory disk frame : List ℕ) : Type 0 where
   pub sound : Sound c (drop 3 regs) io
-  pub kept : HaveText regs text
   pub sized : Sized memory disk frame
 
 module _ (image : List ℕ) (hit : Bool) (m n : Machine) (log log' : List ℕ) (at at' : ℕ) (e : traced n log' at' ≡ traced_on image hit (traced m log at)) (s : SoundMachine (2 ^ 40) m) where
@@ -31,13 +30,12 @@ module _ (image : List ℕ) (hit : Bool) (m n : Machine) (log log' : List ℕ) (
   lengths-after = subst (KeepsLengths m) (sym moved) (lengths-kept image hit m)
 
 -- One turn of the loop.
-pub turn : (image : List ℕ) (hit : Bool) (c d : Core) (regs regs' text text' io io' memory memory' disk disk' frame frame' log log' : List ℕ) (at at' : ℕ)
-    → Turning c regs text io memory disk frame
+pub turn : (image : List ℕ) (hit : Bool) (c d : Core) (regs regs' io io' memory memory' disk disk' frame frame' log log' : List ℕ) (at at' : ℕ)
+    → Turning c regs io memory disk frame
     → c.age < 2 ^ 40 - 1
-    → HaveText regs' text'
     → traced (packed d regs' io' memory' disk' frame') log' at' ≡ traced_on image hit (traced (packed c regs io memory disk frame) log at)
-    → Turning d regs' text' io' memory' disk' frame'
-turn image hit c d regs regs' text text' io io' memory memory' disk disk' frame frame' log log' at at' r young k e =
+    → Turning d regs' io' memory' disk' frame'
+turn image hit c d regs regs' io io' memory memory' disk disk' frame frame' log log' at at' r young e =
     let m = packed c regs io memory disk frame in
     let n = packed d regs' io' memory' disk' frame' in
     let s : SoundMachine (2 ^ 40) m = record { record_is = r.sound } in
@@ -46,6 +44,5 @@ turn image hit c d regs regs' text text' io io' memory memory' disk disk' frame 
     let z = r.sized in
     record {
       sound = after;
-      kept = k;
       sized = record { memory_size = sizes.memory ∙ z.memory_size; disk_size = sizes.disk ∙ z.disk_size; frame_size = sizes.frame ∙ z.frame_size };
     }

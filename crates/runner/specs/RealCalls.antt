@@ -1,18 +1,18 @@
 -- Calls made by the real functions, each known by its own contract alone: `run`, `save` and `load`, the four writers and the four readers.
-use Rattle.std.specs.Prelude.{ℕ, ◌≡◌, List, [], ◌∷◌, length, take}
+use Rattle.std.specs.Prelude.{ℕ, ◌≡◌, Result, List, [], ◌∷◌, length, take}
 use Rattle.text.specs.declared.Outcome.{Outcome}
 use Rattle.text.specs.Questions.{accepted, unless_refused}
-use Rattle.files.specs.declared.FileRead.{FileRead}
-use Rattle.files.specs.declared.Written.{Written}
+use Rattle.files.specs.declared.FileError.{FileError}
+use Rattle.files.specs.declared.WriteError.{WriteError}
 use Rattle.files.specs.Sizes.{image_digits, word_digits, frame_digits, is_image_length, is_data_length, is_frame_length, is_part_length, is_disk_part}
 use Rattle.files.specs.MemoryFile.{file_text, sectors_of}
 use Rattle.files.specs.Promises.{MemoryRead, TextWritten}
 use Rattle.files.specs.Answers.{file_read_outcome, written_outcome}
 use Rattle.machine.specs.declared.Record.{Record}
-use Rattle.saved.specs.declared.Saved.{Saved}
-use Rattle.saved.specs.declared.Loaded.{Loaded}
-use Rattle.saved.specs.Answers.{saved_outcome, loaded_outcome}
-use Rattle.saved.specs.Calls.{save_outcome, save_bytes, load_outcome, load_record}
+use Rattle.saved.specs.declared.SaveError.{SaveError}
+use Rattle.saved.specs.declared.LoadError.{LoadError}
+use Rattle.saved.specs.Answers.{saved_outcome, loaded_outcome, loaded_record}
+use Rattle.saved.specs.Promises.{Saving, Loading}
 use Rattle.claim.specs.Calls.{Call, run, run_other, trip, trip_other, halves, Done, run_outcome, run_call, tripped, standing}
 use Rattle.runner.specs.declared.RunReport.{RunReport}
 use Rattle.runner.specs.Lab.{lab, Standing, Kind, the_record, the_image, the_data, the_frame, the_sectors, Carried, part, place, write_outcome, text_of, read_outcome, SameLength}
@@ -21,23 +21,23 @@ use Rattle.runner.specs.Answers.{done_of}
 -- A writer is lent `out` and `space`, which is `sent` then; where it is accepted, a reader reads what was written into `into`, which is `after` then.
 -- The outcomes of both are those of what they answered, and each keeps its contract.
 pub data TripMade : (k : Kind) (out : Carried k) (space : List ℕ) (into : Carried k) (wrote : Outcome) (sent : List ℕ) (got : Outcome) (after : Carried k) → Type 0 where
-  by_record : {r : Record} {space sent : List ℕ} {into : Record} (a : Saved) (l : Loaded)
-      → (saved_outcome a ≡ save_outcome r space) × (sent ≡ save_bytes r space)
-      → ((saved_outcome a).number ≡ 0 → (loaded_outcome l.answer ≡ load_outcome sent) × (l.state ≡ load_record sent))
-      → TripMade the_record r space into (saved_outcome a) sent (loaded_outcome l.answer) l.state
-  by_image : {out space sent into after : List ℕ} (w : Written) (r : FileRead)
+  by_record : {r : Record} {space sent : List ℕ} {into : Record} (a : Result (Unit {0}) SaveError) (l : Result Record LoadError)
+      → Saving r space a sent
+      → ((saved_outcome a).number ≡ 0 → Loading sent l)
+      → TripMade the_record r space into (saved_outcome a) sent (loaded_outcome l) (loaded_record l)
+  by_image : {out space sent into after : List ℕ} (w : Result ℕ WriteError) (r : Result (Unit {0}) FileError)
       → TextWritten (is_image_length (length out)) (file_text image_digits out) space w sent
       → ((written_outcome w).number ≡ 0 → MemoryRead image_digits is_image_length (take (written_outcome w).count sent) into r after)
       → TripMade the_image out space into (written_outcome w) sent (file_read_outcome r) after
-  by_data : {out space sent into after : List ℕ} (w : Written) (r : FileRead)
+  by_data : {out space sent into after : List ℕ} (w : Result ℕ WriteError) (r : Result (Unit {0}) FileError)
       → TextWritten (is_data_length (length out)) (file_text word_digits out) space w sent
       → ((written_outcome w).number ≡ 0 → MemoryRead word_digits is_data_length (take (written_outcome w).count sent) into r after)
       → TripMade the_data out space into (written_outcome w) sent (file_read_outcome r) after
-  by_frame : {out space sent into after : List ℕ} (w : Written) (r : FileRead)
+  by_frame : {out space sent into after : List ℕ} (w : Result ℕ WriteError) (r : Result (Unit {0}) FileError)
       → TextWritten (is_frame_length (length out)) (file_text frame_digits out) space w sent
       → ((written_outcome w).number ≡ 0 → MemoryRead frame_digits is_frame_length (take (written_outcome w).count sent) into r after)
       → TripMade the_frame out space into (written_outcome w) sent (file_read_outcome r) after
-  by_sectors : {first sectors : ℕ} {out space sent into after : List ℕ} (w : Written) (r : FileRead)
+  by_sectors : {first sectors : ℕ} {out space sent into after : List ℕ} (w : Result ℕ WriteError) (r : Result (Unit {0}) FileError)
       → TextWritten (is_disk_part (length out) first sectors) (file_text word_digits (sectors_of out first sectors)) space w sent
       → ((written_outcome w).number ≡ 0 → MemoryRead word_digits is_part_length (take (written_outcome w).count sent) into r after)
       → TripMade (the_sectors first sectors) out space into (written_outcome w) sent (file_read_outcome r) after

@@ -1,5 +1,6 @@
 // A run.
-ghost use Rattle.std.specs.Prelude.{◌≡◌, true, length};
+// Stays (1, 4, 5): a refused run's report is made in one place; the C interface lends the memories one by one.
+ghost use Rattle.std.specs.Prelude.{◌≡◌, true, Err, length};
 ghost use Rattle.files.specs.Irq2File.{rising};
 ghost use Rattle.saved.specs.Sound.{is_sound};
 ghost use Rattle.executor.specs.Lent.{Sized};
@@ -9,13 +10,12 @@ ghost use Rattle.runner.specs.Answers.{done_of};
 
 use crate::cycles::make_cycles;
 use crate::questions::are_lengths;
-use crate::registers::{all_registers, kept_registers};
-use crate::{RunAnswer, RunReport};
+use crate::{RunError, RunReport};
+use executor::registers::Registers;
 use irq2_list::is_rising;
 use machine::Record;
 use saved::is_sound;
-use text::hex_words::hex_words;
-use trace::registers::put_registers;
+use text::hex_words::HexTable;
 
 // Makes cycles until the budget is spent, the machine has stopped or is at the cycle limit, or the lines of the next cycle don't fit the log. A
 // refusal changes nothing.
@@ -32,26 +32,26 @@ pub fn run(
     ensures { done_of result image.now memory.new disk.new frame.new log.new ≡ run_call lab budget log.old irq2.now (standing_of image.now state memory.old disk.old frame.old) }
 {
     if !are_lengths(image.len(), memory.len(), disk.len(), frame.len()) {
-        return refused(state, RunAnswer::WrongLength);
+        return refused(state, RunError::WrongLength);
     }
     if !is_rising(irq2) {
-        return refused(state, RunAnswer::NotRising);
+        return refused(state, RunError::NotRising);
     }
     if !is_sound(state) {
-        return refused(state, RunAnswer::Unsound);
+        return refused(state, RunError::Unsound);
     }
     run_sound(state, image, memory, disk, frame, irq2, budget, log)
 }
 
 // A run that is refused hands its record back.
-fn refused(state: Record, answer: RunAnswer) -> RunReport
-    ensures { (result.state ≡ state) × ((result.cycles ≡ 0) × ((result.bytes ≡ 0) × (result.answer ≡ answer))) }
+fn refused(state: Record, error: RunError) -> RunReport
+    ensures { result ≡ record { state = state; cycles = 0; bytes = 0; answer = Err error } }
 {
     RunReport {
-        state: state,
+        state,
         cycles: 0,
         bytes: 0,
-        answer: answer,
+        answer: Err(error),
     }
 }
 
@@ -69,28 +69,31 @@ fn run_sound(
     requires { (is_sound state ≡ true) × ((rising irq2.now ≡ true) × ((length image.now ≡ 4096) × Sized memory.old disk.old frame.old)) }
     ensures { done_of result image.now memory.new disk.new frame.new log.new ≡ ran lab (standing_of image.now state memory.old disk.old frame.old) log.old (run_from simp (code_of image.now irq2.now) budget (length log.old) (machine_of state memory.old disk.old frame.old)) }
 {
-    let table = hex_words();
-    let kept = state.regs;
-    let mut regs = all_registers(kept);
+    let table = HexTable::new();
+    let mut registers = Registers::of_record(&state.regs, &table);
     let mut io = state.io;
-    let mut text = [0u8; 118];
-    put_registers(&mut text, &regs, &table);
     let e = make_cycles(
-        state.core, &mut regs, &mut text, &mut io, image, memory, disk, frame, irq2, budget, log,
+        state.core,
+        &mut registers,
+        &mut io,
+        image,
+        memory,
+        disk,
+        frame,
+        irq2,
+        budget,
+        log,
         &table,
     );
-    let core = e.core;
-    let answer = e.answer;
-    let kept_then = kept_registers(regs);
     let record = Record {
-        core: core,
-        regs: kept_then,
-        io: io,
+        core: e.core,
+        regs: registers.record(),
+        io,
     };
     RunReport {
         state: record,
         cycles: e.cycles,
         bytes: e.at,
-        answer: answer,
+        answer: Ok(e.reason),
     }
 }

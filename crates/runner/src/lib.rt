@@ -1,4 +1,5 @@
 // Runs: cycles of the machine on lent memories, with their log lines. What a run does, and demand 3, stand in specs/ and proofs/.
+// Stays (1): a refused run hands its record back with counts of zero, as document 01 says and the theorem of demand 3 (`done_of`) needs.
 #![tactic(auto)]
 
 use machine::{Core, Record};
@@ -7,13 +8,12 @@ mod answers;
 mod calls;
 mod cycles;
 mod questions;
-mod registers;
 
 pub use calls::run;
 
-// Why a run ended, or which question refused it.
+// Why a run ended.
 #[derive(Clone, Copy)]
-pub enum RunAnswer {
+pub enum Reason {
     // Its budget is spent.
     BudgetSpent,
     // The machine has stopped: its status is not 0.
@@ -22,6 +22,11 @@ pub enum RunAnswer {
     LogFull,
     // The machine is at the cycle limit.
     AtLimit,
+}
+
+// Which question refused a run.
+#[derive(Clone, Copy)]
+pub enum RunError {
     // A lent memory has not its length.
     WrongLength,
     // The irq2 list is not strictly rising.
@@ -30,13 +35,14 @@ pub enum RunAnswer {
     Unsound,
 }
 
-// What a run hands back: the record, the cycles that it made, the log bytes that it wrote, and its answer.
+// What a run hands back: the record, the cycles that it made, the log bytes that it wrote, and why it ended. One that is refused hands its record back,
+// and made and wrote nothing.
 #[derive(Clone, Copy)]
 pub struct RunReport {
     pub state: Record,
     pub cycles: u64,
     pub bytes: usize,
-    pub answer: RunAnswer,
+    pub answer: Result<Reason, RunError>,
 }
 
 // Where a run's cycles ended: the scalars then, the cycles made, the log's place after their lines, and why.
@@ -45,5 +51,5 @@ pub struct Ended {
     pub core: Core,
     pub cycles: u64,
     pub at: usize,
-    pub answer: RunAnswer,
+    pub reason: Reason,
 }

@@ -1,14 +1,14 @@
 // What a run asks.
+// Stays (2, 4): the least of a sum and the limit is asked so that the sum can't wrap; the limit is said where its question is asked.
 ghost use Rattle.std.specs.Prelude.{◌≡◌, cond, not, ◌&&◌, List, ℕ, ◌+◌, ◌-◌, ◌≤◌, ◌<◌, eqb, leb, ltb, length, get_or, drop};
-ghost use Rattle.text.specs.Questions.{accepted};
 ghost use Rattle.files.specs.Sizes.{is_image_length, is_data_length, is_disk_length, is_frame_length, cycle_limit};
 ghost use Rattle.machine.specs.Cycle.{at_fetch};
 ghost use Rattle.machine.specs.Log.{lines_at_fetch};
 ghost use Rattle.machine.specs.Soundness.{Sound};
 ghost use Rattle.executor.specs.Lent.{packed};
-ghost use Rattle.runner.specs.Answers.{ran_outcome, ran_reason, reason_of};
+ghost use Rattle.runner.specs.Answers.{reason_number, reason_of};
 
-use crate::{Ended, RunAnswer};
+use crate::{Ended, Reason};
 use machine::Core;
 use simulator::lengths::lines_length;
 
@@ -22,16 +22,7 @@ const MOST_BYTES: usize = 231;
 pub fn are_lengths(image: usize, memory: usize, disk: usize, frame: usize) -> bool
     ensures { result ≡ (is_image_length image && is_data_length memory && is_disk_length disk && is_frame_length frame) }
 {
-    if image != 4096 {
-        return false;
-    }
-    if memory != 4096 {
-        return false;
-    }
-    if disk != 16384 {
-        return false;
-    }
-    frame == 65536
+    image == 4096 && memory == 4096 && disk == 16384 && frame == 65536
 }
 
 // The age of a machine of this age when its budget is spent, or the limit where that comes first.
@@ -56,8 +47,9 @@ pub fn may_cycle(
     image: &[u64],
     room: usize,
 ) -> bool
-    requires sound { Sound c (drop 3 regs.now) io.now × (c.age < cycle_limit) }
-    requires regs_len { (length regs.now ≡ 16) × ((get_or regs.now 0 0 ≡ 0) × (length image.now ≡ 4096)) }
+    requires sound { Sound c (drop 3 regs.now) io.now }
+    requires young { c.age < cycle_limit }
+    requires sized { (length regs.now ≡ 16) × (get_or regs.now 0 0 ≡ 0) × (length image.now ≡ 4096) }
     ensures { (memory disk frame : List ℕ) → result ≡ (eqb c.status 0 && not (eqb c.age cycle_limit) && leb (length (lines_at_fetch image.now (at_fetch hit (packed c regs.now io.now memory disk frame)))) room) }
 {
     if c.status != 0 {
@@ -71,29 +63,29 @@ pub fn may_cycle(
 
 // The end of a run whose machine makes no further cycle: why, in the order in which a run asks.
 pub fn ended(c: Core, cycles: u64, budget: u64, at: usize) -> Ended
-    ensures core_value { (result.core ≡ c) × ((result.cycles ≡ cycles) × (result.at ≡ at)) }
-    ensures answer_value { (ran_outcome result.answer ≡ accepted 0) × (ran_reason result.answer ≡ reason_of c cycles budget) }
+    ensures place { (result.core ≡ c) × (result.cycles ≡ cycles) × (result.at ≡ at) }
+    ensures reason { reason_number result.reason ≡ reason_of c cycles budget }
 {
     Ended {
         core: c,
-        cycles: cycles,
-        at: at,
-        answer: why(c, cycles, budget),
+        cycles,
+        at,
+        reason: why(c, cycles, budget),
     }
 }
 
 // Why a machine makes no further cycle.
-fn why(c: Core, cycles: u64, budget: u64) -> RunAnswer
-    ensures { (ran_outcome result ≡ accepted 0) × (ran_reason result ≡ reason_of c cycles budget) }
+fn why(c: Core, cycles: u64, budget: u64) -> Reason
+    ensures { reason_number result ≡ reason_of c cycles budget }
 {
     if c.status != 0 {
-        return RunAnswer::Stopped;
+        return Reason::Stopped;
     }
     if c.age == CYCLE_LIMIT {
-        return RunAnswer::AtLimit;
+        return Reason::AtLimit;
     }
     if budget <= cycles {
-        return RunAnswer::BudgetSpent;
+        return Reason::BudgetSpent;
     }
-    RunAnswer::LogFull
+    Reason::LogFull
 }

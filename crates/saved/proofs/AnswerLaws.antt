@@ -13,49 +13,58 @@ use Rattle.bitpack.proofs.FormatLaws.{fields_fit}
 use Rattle.machine.specs.declared.Record.{Record}
 use Rattle.saved.specs.Layout.{saved_bytes, widths, record_of, edition_two, widths_one, record_one, edition_one}
 use Rattle.saved.specs.Sound.{is_sound}
-use Rattle.saved.specs.Calls.{save_outcome, save_bytes, fresh_record, format_of, is_sound_in, is_busy_one, load_outcome, load_record}
-use Rattle.saved.specs.Answers.{saved_outcome, loaded_outcome}
-use Rattle.saved.specs.declared.Loaded.{Loaded}
-use Rattle.saved.specs.declared.Saved.TheVariants as Saved
-use Rattle.saved.specs.declared.LoadAnswer.TheVariants as LoadAnswer
+use Rattle.saved.specs.Calls.{format_of, is_sound_in, is_busy_one}
+use Rattle.saved.specs.Answers.{save_refusal, load_refusal}
+use Rattle.saved.specs.Promises.{Saving, Loading}
+use Rattle.saved.specs.declared.SaveError.{SaveError}
+use Rattle.saved.specs.declared.LoadError.{LoadError}
+use Rattle.std.proofs.Common.{Ok, Err}
+
+-- ---- an error is a refusal
+
+pub save_refused : (e : SaveError) → eqb (save_refusal e).number 0 ≡ false
+save_refused SaveError.WrongLength = refl
+save_refused SaveError.Unsound = refl
+
+pub load_refused : (e : LoadError) → eqb (load_refusal e).number 0 ≡ false
+load_refused LoadError.WrongLength = refl
+load_refused LoadError.OtherEdition = refl
+load_refused LoadError.Unsound = refl
+load_refused LoadError.Busy = refl
 
 -- ---- saving
 
 module _ (r : Record) (out : List ℕ) where
-  pub save_wrong_length : eqb (length out) 94 ≡ false → (saved_outcome Saved.WrongLength ≡ save_outcome r out) × (out ≡ save_bytes r out)
+  pub save_wrong_length : eqb (length out) 94 ≡ false → Saving r out (Err SaveError.WrongLength) out
   save_wrong_length e = (rw e, rw e)
 
   module _ (e : eqb (length out) 94 ≡ true) where
-    pub save_unsound : is_sound r ≡ false → (saved_outcome Saved.Unsound ≡ save_outcome r out) × (out ≡ save_bytes r out)
+    pub save_unsound : is_sound r ≡ false → Saving r out (Err SaveError.Unsound) out
     save_unsound q = (rw (e, q), rw (e, q))
 
-    pub save_done : is_sound r ≡ true → (new : List ℕ) → new ≡ saved_bytes r → (saved_outcome Saved.Done ≡ save_outcome r out) × (new ≡ save_bytes r out)
+    pub save_done : is_sound r ≡ true → (new : List ℕ) → new ≡ saved_bytes r → Saving r out (Ok tt) new
     save_done q new is = (rw (e, q), rw (e, q) is)
 
 -- ---- reading
 
 module _ (b : List ℕ) where
-  -- What reading promises.
-  abbrev Right : Loaded → Type 0
-  Right l = (loaded_outcome l.answer ≡ load_outcome b) × (l.state ≡ load_record b)
-
-  pub load_wrong_length : eqb (length b) 91 ≡ false → eqb (length b) 94 ≡ false → (l : Loaded) → (l.state ≡ fresh_record) × (l.answer ≡ LoadAnswer.WrongLength) → Right l
-  load_wrong_length e q l p = (rw (p.1, e, q), rw (p.0, e, q))
+  pub load_wrong_length : eqb (length b) 91 ≡ false → eqb (length b) 94 ≡ false → Loading b (Err LoadError.WrongLength)
+  load_wrong_length e q = (rw (e, q), rw (e, q))
 
   -- Bytes of a format, by their length.
   module _ (F : Format Record) (is : format_of b ≡ F) (known : (eqb (length b) 91 || eqb (length b) 94) ≡ true) where
-    pub load_edition : eqb (edition_in F b) F.edition ≡ false → (l : Loaded) → (l.state ≡ fresh_record) × (l.answer ≡ LoadAnswer.OtherEdition) → Right l
-    load_edition q l p = (rw (p.1, known, is, q), rw (p.0, known, is, q))
+    pub load_edition : eqb (edition_in F b) F.edition ≡ false → Loading b (Err LoadError.OtherEdition)
+    load_edition q = (rw (known, is, q), rw (known, is, q))
 
     module _ (q : eqb (edition_in F b) F.edition ≡ true) where
-      pub load_unsound : is_sound_in F b ≡ false → (l : Loaded) → (l.state ≡ fresh_record) × (l.answer ≡ LoadAnswer.Unsound) → Right l
-      load_unsound s l p = (rw (p.1, known, is, q, s), rw (p.0, known, is, q, s))
+      pub load_unsound : is_sound_in F b ≡ false → Loading b (Err LoadError.Unsound)
+      load_unsound s = (rw (known, is, q, s), rw (known, is, q, s))
 
       module _ (s : is_sound_in F b ≡ true) where
-        pub load_busy : is_busy_one F b ≡ true → (l : Loaded) → (l.state ≡ fresh_record) × (l.answer ≡ LoadAnswer.Busy) → Right l
-        load_busy t l p = (rw (p.1, known, is, q, s, t), rw (p.0, known, is, q, s, t))
+        pub load_busy : is_busy_one F b ≡ true → Loading b (Err LoadError.Busy)
+        load_busy t = (rw (known, is, q, s, t), rw (known, is, q, s, t))
 
-        pub load_loaded : is_busy_one F b ≡ false → (r : Record) → r ≡ record_in F b → Right (record { state = r; answer = LoadAnswer.Loaded })
+        pub load_loaded : is_busy_one F b ≡ false → (r : Record) → r ≡ record_in F b → Loading b (Ok r)
         load_loaded t r e = (rw (known, is, q, s, t), rw (known, is, q, s, t) e)
 
 -- ---- the questions of each edition, by its fields

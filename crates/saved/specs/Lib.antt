@@ -3,6 +3,7 @@ pub mod Layout
 pub mod Parts
 pub mod Sound
 pub mod Calls
+pub mod Promises
 pub mod OldRecords
 pub mod Answers
 pub mod Examples

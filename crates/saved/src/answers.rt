@@ -1,35 +1,31 @@
-// What each answer is in numbers.
-ghost use Rattle.std.specs.Prelude.{◌≡◌};
-ghost use Rattle.saved.specs.Answers.{saved_outcome, loaded_outcome};
+// What each error is in numbers.
+// Stays (2, 4): each error enum says its own number once, by the trait `Refusal`.
+ghost use Rattle.saved.specs.Answers.{save_refusal, load_refusal};
 
-use crate::{LoadAnswer, Saved};
+use crate::{LoadError, SaveError};
 use text::Outcome;
-use text::outcomes::{accepted, refused};
+use text::outcomes::{Refusal, refused};
 
-impl Saved {
-    // The outcome of saving a record.
-    pub fn outcome(self) -> Outcome
-        ensures { result ≡ saved_outcome self }
-    {
+impl Refusal for SaveError {
+    ghost refusal = { save_refusal };
+
+    fn outcome(self) -> Outcome {
         match self {
-            Saved::Done => accepted(0),
-            Saved::WrongLength => refused(1, 0),
-            Saved::Unsound => refused(13, 0),
+            SaveError::WrongLength => refused(1, 0),
+            SaveError::Unsound => refused(13, 0),
         }
     }
 }
 
-impl LoadAnswer {
-    // The outcome of reading a record.
-    pub fn outcome(self) -> Outcome
-        ensures { result ≡ loaded_outcome self }
-    {
+impl Refusal for LoadError {
+    ghost refusal = { load_refusal };
+
+    fn outcome(self) -> Outcome {
         match self {
-            LoadAnswer::Loaded => accepted(0),
-            LoadAnswer::WrongLength => refused(1, 0),
-            LoadAnswer::OtherEdition => refused(14, 0),
-            LoadAnswer::Unsound => refused(13, 0),
-            LoadAnswer::Busy => refused(20, 0),
+            LoadError::WrongLength => refused(1, 0),
+            LoadError::OtherEdition => refused(14, 0),
+            LoadError::Unsound => refused(13, 0),
+            LoadError::Busy => refused(20, 0),
         }
     }
 }

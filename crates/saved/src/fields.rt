@@ -1,10 +1,11 @@
 // The fields of a record, in the order of their bits, and the record of fields.
+// Stays (2, 4, 6): the two editions have other fields and places, each with its definition (`record_of`, `record_one`); what they share is `record_from`.
 ghost use Rattle.std.specs.Prelude.{◌≡◌, true};
 ghost use Rattle.bitpack.specs.Packed.{fit};
 ghost use Rattle.saved.specs.Layout.{widths, fields_of, record_of, widths_one, record_one, record_from};
 ghost use Rattle.saved.specs.Parts.{HasRecord};
 
-use crate::copies::{short, shorten, widen};
+use crate::copies::{shorten, widen};
 use crate::layout::{EDITION, FIRST_IO, FIRST_REGISTER, FIRST_REGISTER_ONE, LAST};
 use devices::Drive;
 use machine::{Core, Record};
@@ -13,21 +14,19 @@ use machine::{Core, Record};
 pub fn fields(r: Record) -> [u64; 45]
     ensures { result ≡ fields_of r }
 {
-    let regs = r.regs;
-    let io = r.io;
     let c = r.core;
     let d = c.drive;
     let mut f: [u64; 45] = [0; 45];
     f[0] = EDITION;
-    f[1] = c.status as u64;
-    f[2] = c.handler as u64;
-    f[3] = c.pc as u64;
+    f[1] = u64::from(c.status);
+    f[2] = u64::from(c.handler);
+    f[3] = u64::from(c.pc);
     f[4] = c.age;
-    f[5] = d.left as u64;
-    f[6] = d.sector as u64;
-    f[7] = d.buffer as u64;
-    widen(&regs, &mut f[FIRST_REGISTER..FIRST_IO]);
-    widen(&io, &mut f[FIRST_IO..LAST]);
+    f[5] = u64::from(d.left);
+    f[6] = u64::from(d.sector);
+    f[7] = u64::from(d.buffer);
+    widen(&r.regs, &mut f[FIRST_REGISTER..FIRST_IO]);
+    widen(&r.io, &mut f[FIRST_IO..LAST]);
     f
 }
 
@@ -37,9 +36,9 @@ pub fn record_of(f: [u64; 45]) -> Record
     ensures { result ≡ record_of f }
 {
     let d = Drive {
-        left: short(f[5]),
-        sector: short(f[6]),
-        buffer: short(f[7]),
+        left: f[5] as u32,
+        sector: f[6] as u32,
+        buffer: f[7] as u32,
     };
     record_from(FIRST_REGISTER, d, &f)
 }
@@ -50,7 +49,7 @@ pub fn record_one(f: [u64; 43]) -> Record
     ensures { result ≡ record_one f }
 {
     let d = Drive {
-        left: short(f[5]),
+        left: f[5] as u32,
         sector: 0,
         buffer: 0,
     };
@@ -68,15 +67,11 @@ fn record_from(n: usize, d: Drive, f: &[u64]) -> Record
     shorten(&f[n..middle], &mut regs);
     shorten(&f[middle..middle + 23], &mut io);
     let core = Core {
-        status: short(f[1]),
-        handler: short(f[2]),
-        pc: short(f[3]),
+        status: f[1] as u32,
+        handler: f[2] as u32,
+        pc: f[3] as u32,
         age: f[4],
         drive: d,
     };
-    Record {
-        core: core,
-        regs: regs,
-        io: io,
-    }
+    Record { core, regs, io }
 }

@@ -1,4 +1,5 @@
 // The fresh record.
+// Stays (4): the fresh record has a definition and its own contract; a derived Default has none.
 ghost use Rattle.std.specs.Prelude.{◌≡◌};
 ghost use Rattle.saved.specs.Calls.{fresh_record};
 

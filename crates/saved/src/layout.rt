@@ -1,4 +1,5 @@
 // The layout of a saved record: edition 2.
+// Stays (2, 6): the two editions are two tables, as document 02 has them, beside the definitions of their widths.
 pub const EDITION: u64 = 2;
 
 // How many bytes a saved record has.

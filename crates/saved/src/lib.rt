@@ -1,8 +1,6 @@
 // The saved record: edition 2, and edition 1, which is read only. What their bytes are stands in specs/.
 #![tactic(auto)]
 
-use machine::Record;
-
 mod answers;
 mod copies;
 pub mod fields;
@@ -17,22 +15,18 @@ pub use loading::load;
 pub use saving::save;
 pub use sound::{is_possible, is_sound};
 
-// What saving answers.
+// Why a record is not saved.
 #[derive(Clone, Copy)]
-pub enum Saved {
-    // The bytes hold the record.
-    Done,
+pub enum SaveError {
     // The lent bytes are not as many as a record has.
     WrongLength,
     // The record is not sound.
     Unsound,
 }
 
-// What reading a record answers.
+// Why a record is not read.
 #[derive(Clone, Copy)]
-pub enum LoadAnswer {
-    // The record is read.
-    Loaded,
+pub enum LoadError {
     // The bytes are not as many as a record of edition 1 or 2 has.
     WrongLength,
     // The bytes name another edition than the one of their length.
@@ -41,11 +35,4 @@ pub enum LoadAnswer {
     Unsound,
     // The record is of edition 1, and its disk is busy.
     Busy,
-}
-
-// What reading a record hands back: the record, fresh where the bytes are refused, and the answer.
-#[derive(Clone, Copy)]
-pub struct Loaded {
-    pub state: Record,
-    pub answer: LoadAnswer,
 }

@@ -1,9 +1,8 @@
 // A record saved.
-ghost use Rattle.std.specs.Prelude.{◌≡◌};
-ghost use Rattle.saved.specs.Answers.{saved_outcome};
-ghost use Rattle.saved.specs.Calls.{save_outcome, save_bytes};
+// Stays (2): bench_saved has the save as it was before, to measure both.
+ghost use Rattle.saved.specs.Promises.{Saving};
 
-use crate::Saved;
+use crate::SaveError;
 use crate::fields::fields;
 use crate::layout::{BYTES, WIDTHS};
 use crate::sound::is_sound_with;
@@ -11,16 +10,16 @@ use bitpack::pack;
 use machine::Record;
 
 // Saves a record in 94 bytes, as edition 2. A refusal changes nothing.
-pub fn save(r: Record, bytes: &mut [u8]) -> Saved
-    ensures { (saved_outcome result ≡ save_outcome r bytes.old) × (bytes.new ≡ save_bytes r bytes.old) }
+pub fn save(r: Record, bytes: &mut [u8]) -> Result<(), SaveError>
+    ensures { Saving r bytes.old result bytes.new }
 {
     if bytes.len() != BYTES {
-        return Saved::WrongLength;
+        return Err(SaveError::WrongLength);
     }
     let f = fields(r);
     if !is_sound_with(r, f) {
-        return Saved::Unsound;
+        return Err(SaveError::Unsound);
     }
     pack(&WIDTHS, &f, bytes);
-    Saved::Done
+    Ok(())
 }

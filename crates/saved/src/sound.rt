@@ -42,11 +42,5 @@ pub fn is_possible(r: Record) -> bool
     requires { fit widths (fields_of r) ≡ true }
     ensures { result ≡ is_sound r }
 {
-    let io = r.io;
-    let c = r.core;
-    let d = c.drive;
-    if MOST_STATUS < c.status {
-        return false;
-    }
-    is_sound_drive(d, io[DISKSTATUS], io[DISKCMD])
+    r.core.status <= MOST_STATUS && is_sound_drive(r.core.drive, r.io[DISKSTATUS], r.io[DISKCMD])
 }

@@ -1,12 +1,13 @@
 // Runs a program on the course paper's fourteen files: `sim IMEMIN DMEMIN .. MONITOR.YUV`, and a number of cycles after them if the run is to stop.
 // Without these it prints a help text.
+// Stays (2, 7): the number of arguments says which way `sim` is called, as its help text has it; the limit is document 01's number.
 #![tactic(auto)]
 
 mod help;
 
 use crate::help::print_help;
 use console::{are_names, argument_count, open_missing_standard_streams};
-use memories::{Count, read_budget};
+use memories::read_budget;
 use run_commands::simulate;
 
 // The age at which a machine makes no cycle any more: as good as no budget.
@@ -23,7 +24,7 @@ fn main(rt: HostRuntime) {
 
 // Runs with the budget of the fifteenth argument.
 fn simulate_budget(rt: HostRuntime) {
-    if let Count::Of(budget) = read_budget(rt, 15) {
+    if let Some(budget) = read_budget(rt, 15) {
         simulate_names(rt, budget as u64);
     }
 }

@@ -1,5 +1,6 @@
 // Reads an instruction file from standard input and runs it, other memories zero, no irq2 cycles, budget 100,000 cycles. Prints the log and then
 // the line E; of a file that is refused the line N alone.
+// Stays (1, 2, 6): the line N has the refusal's number and place; `FrontRead` speaks of a buffer and how much of it a file fills.
 #![tactic(auto)]
 
 ghost use Rattle.std.specs.Prelude.{◌≤◌, ◌<◌, length};
@@ -11,6 +12,7 @@ use console::read_full;
 use files::read_image;
 use long_run::{RunEnd, print_line_e, print_line_n, run_budget};
 use text::Outcome;
+use text::outcomes::done;
 
 // The bytes that decide how a file of any length is read: those of 4,096 lines, and one more.
 const FRONT: usize = 53_249;
@@ -35,7 +37,7 @@ fn read_front(buffer: &[u8], n: usize, image: &mut [u64; 4096]) -> Outcome
     requires { (53248 < length buffer.now) × (n ≤ length buffer.now) }
     ensures { FrontRead image_digits is_image_length buffer.now n result image.old image.new }
 {
-    read_image(&buffer[..n], image).outcome()
+    done(read_image(&buffer[..n], image))
 }
 
 // Runs an image and prints the log.

@@ -5,28 +5,29 @@ use mathlib.Core.List.{List}
 use native.Mathlib.Omega.{arith}
 use Rattle.text.specs.declared.Outcome.{Outcome}
 use Rattle.text.specs.Questions.{accepted, unless_refused}
-use Rattle.assembler.specs.declared.Assembled.{Assembled}
-use Rattle.assembler.specs.declared.Assembled.TheVariants.{Done, WrongLength, BadBytes, WrongForm, UnknownName, OutOfRange, DefinedBefore, Undefined, NoPlace}
+use Rattle.std.proofs.Common.{Result, Ok, Err}
+use Rattle.assembler.specs.declared.AssembleError.{AssembleError}
+use Rattle.assembler.specs.declared.AssembleError.TheVariants.{WrongLength, BadBytes, WrongForm, UnknownName, OutOfRange, DefinedBefore, Undefined, NoPlace}
 use Rattle.assembler.specs.Answers.{assembled_outcome}
 use Rattle.assembler.specs.Promises.{Assembling}
 use Rattle.assembler.specs.Memories.{assembled_image, assembled_data}
-use Rattle.lister.specs.declared.Listed.{Listed}
+use Rattle.lister.specs.declared.ListError.{ListError}
 use Rattle.lister.specs.Calls.{listed_outcome, TextListed}
 use Rattle.simp.specs.Assembly.{Assembles, Lists}
 
 -- Number 0 tells that a text is assembled.
-number-zero : (a : Assembled) → (assembled_outcome a).number ≡ 0 → assembled_outcome a ≡ accepted 0
-number-zero Done e = refl
-number-zero WrongLength e = absurd (omega arith)
-number-zero (BadBytes line) e = absurd (omega arith)
-number-zero (WrongForm line) e = absurd (omega arith)
-number-zero (UnknownName line) e = absurd (omega arith)
-number-zero (OutOfRange line) e = absurd (omega arith)
-number-zero (DefinedBefore line) e = absurd (omega arith)
-number-zero (Undefined line) e = absurd (omega arith)
-number-zero (NoPlace line) e = absurd (omega arith)
+number-zero : (a : Result (Unit {0}) AssembleError) → (assembled_outcome a).number ≡ 0 → assembled_outcome a ≡ accepted 0
+number-zero (Ok _) e = refl
+number-zero (Err WrongLength) e = absurd (omega arith)
+number-zero (Err (BadBytes line)) e = absurd (omega arith)
+number-zero (Err (WrongForm line)) e = absurd (omega arith)
+number-zero (Err (UnknownName line)) e = absurd (omega arith)
+number-zero (Err (OutOfRange line)) e = absurd (omega arith)
+number-zero (Err (DefinedBefore line)) e = absurd (omega arith)
+number-zero (Err (Undefined line)) e = absurd (omega arith)
+number-zero (Err (NoPlace line)) e = absurd (omega arith)
 
-pub assembles : {source image memory : List ℕ} {a : Assembled} {image_after memory_after : List ℕ} {r : Outcome} → Assembling source image memory a image_after memory_after → r ≡ assembled_outcome a
+pub assembles : {source image memory : List ℕ} {a : Result (Unit {0}) AssembleError} {image_after memory_after : List ℕ} {r : Outcome} → Assembling source image memory a image_after memory_after → r ≡ assembled_outcome a
     → Assembles source image memory r.number image_after memory_after r.place
 assembles {source} {image} {memory} {a} p t =
     record {
@@ -37,7 +38,7 @@ assembles {source} {image} {memory} {a} p t =
       high_bits = λ q. p.high_bits (number-zero a (sym (ap (λ (x : Outcome). x.number) t) ∙ q));
     }
 
-pub lists : {words text : List ℕ} {a : Listed} {text_after : List ℕ} {r : Outcome} → TextListed words text a text_after → r ≡ listed_outcome a → Lists words text r.number text_after r.count r.place
+pub lists : {words text : List ℕ} {a : Result ℕ ListError} {text_after : List ℕ} {r : Outcome} → TextListed words text a text_after → r ≡ listed_outcome a → Lists words text r.number text_after r.count r.place
 lists p t =
     record {
       number = ap (λ (x : Outcome). x.number) (t ∙ p.answer);

@@ -4,17 +4,18 @@ use mathlib.Core.Path.{◌≡◌, ◌∙◌, ap}
 use mathlib.Core.Bool.{Bool}
 use mathlib.Core.List.{List}
 use Rattle.text.specs.declared.Outcome.{Outcome}
-use Rattle.files.specs.declared.FileRead.{FileRead}
-use Rattle.files.specs.declared.CyclesRead.{CyclesRead}
-use Rattle.files.specs.declared.Written.{Written}
+use Rattle.std.proofs.Common.{Result}
+use Rattle.files.specs.declared.FileError.{FileError}
+use Rattle.files.specs.declared.CycleError.{CycleError}
+use Rattle.files.specs.declared.WriteError.{WriteError}
 use Rattle.files.specs.Answers.{file_read_outcome, cycles_read_outcome, written_outcome}
 use Rattle.files.specs.Promises.{MemoryRead, Irq2Read, TextWritten}
-use Rattle.intel_hex.specs.declared.HexRead.{HexRead}
+use Rattle.intel_hex.specs.declared.HexError.{HexError}
 use Rattle.intel_hex.specs.Answers.{hex_read_outcome}
 use Rattle.intel_hex.specs.Promises.{HexFileRead}
 use Rattle.simp.specs.Files.{Reads, ReadsCycles, ReadsHex, Writes}
 
-pub reads : {k : ℕ} {is_right : ℕ → Bool} {text memory : List ℕ} {a : FileRead} {after : List ℕ} {r : Outcome} → MemoryRead k is_right text memory a after → r ≡ file_read_outcome a
+pub reads : {k : ℕ} {is_right : ℕ → Bool} {text memory : List ℕ} {a : Result (Unit {0}) FileError} {after : List ℕ} {r : Outcome} → MemoryRead k is_right text memory a after → r ≡ file_read_outcome a
     → Reads k is_right text memory r.number after r.place
 reads p t =
     record {
@@ -23,7 +24,7 @@ reads p t =
       words = p.words;
     }
 
-pub reads_cycles : {text cycles : List ℕ} {a : CyclesRead} {after : List ℕ} {r : Outcome} → Irq2Read text cycles a after → r ≡ cycles_read_outcome a
+pub reads_cycles : {text cycles : List ℕ} {a : Result ℕ CycleError} {after : List ℕ} {r : Outcome} → Irq2Read text cycles a after → r ≡ cycles_read_outcome a
     → ReadsCycles text cycles r.number after r.count r.place
 reads_cycles p t =
     record {
@@ -33,7 +34,7 @@ reads_cycles p t =
       places = p.places;
     }
 
-pub writes : {is_right : Bool} {file text : List ℕ} {a : Written} {after : List ℕ} {r : Outcome} → TextWritten is_right file text a after → r ≡ written_outcome a
+pub writes : {is_right : Bool} {file text : List ℕ} {a : Result ℕ WriteError} {after : List ℕ} {r : Outcome} → TextWritten is_right file text a after → r ≡ written_outcome a
     → Writes is_right file text r.number after r.count
 writes p t =
     record {
@@ -42,7 +43,7 @@ writes p t =
       bytes = p.bytes;
     }
 
-pub reads_hex : {size : ℕ} {text memory : List ℕ} {a : HexRead} {after : List ℕ} {r : Outcome} → HexFileRead size text memory a after → r ≡ hex_read_outcome a
+pub reads_hex : {size : ℕ} {text memory : List ℕ} {a : Result (Unit {0}) HexError} {after : List ℕ} {r : Outcome} → HexFileRead size text memory a after → r ≡ hex_read_outcome a
     → ReadsHex size text memory r.number after r.place
 reads_hex p t =
     record {

@@ -1,5 +1,6 @@
 // The C face of the lab: each call returns 0 or document 01's number, and writes the place and the counts, 0 where document 01 says 0. What each
 // promises stands in specs/; include/simp.h is its header.
+// Stays (1): the C interface returns the documents' numbers.
 #![tactic(auto)]
 
 mod assembly;

@@ -1,4 +1,5 @@
 // A record and its 40 numbers.
+// Stays (1, 4, 5, 6): the C interface has a record as 40 numbers; one that is too wide is refused as unsound after the questions before it, in the documents' order.
 ghost use Rattle.std.specs.Prelude.{◌≡◌, false, length};
 ghost use Rattle.saved.specs.Sound.{is_sound};
 ghost use Rattle.simp.specs.Numbers.{record_numbers, numbers_of, StandsFor};
@@ -8,7 +9,6 @@ use machine::Record;
 use saved::fields::fields;
 use saved::fresh_record;
 use saved::layout::{EDITION, WIDTHS};
-use words::copies::copy_long_words;
 
 // How many numbers a record is.
 pub const RECORD_NUMBERS: usize = 40;
@@ -20,8 +20,8 @@ pub fn record_of(numbers: &[u64]) -> Record
 {
     let mut f: [u64; 45] = [0; 45];
     f[0] = EDITION;
-    copy_long_words(&mut f[1..39], &numbers[..38]);
-    copy_long_words(&mut f[41..43], &numbers[38..]);
+    f[1..39].copy_from_slice(&numbers[..38]);
+    f[41..43].copy_from_slice(&numbers[38..]);
     let widths = WIDTHS;
     if !all_fit(&widths, &f) {
         return unsound_record();
@@ -44,6 +44,6 @@ pub fn put_numbers(r: Record, numbers: &mut [u64])
     ensures { numbers.new ≡ numbers_of r }
 {
     let f = fields(r);
-    copy_long_words(&mut numbers[..38], &f[1..39]);
-    copy_long_words(&mut numbers[38..], &f[41..43]);
+    numbers[..38].copy_from_slice(&f[1..39]);
+    numbers[38..].copy_from_slice(&f[41..43]);
 }

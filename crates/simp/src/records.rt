@@ -3,7 +3,8 @@ ghost use Rattle.simp.specs.Records.{Saves, Loads};
 
 use crate::WRONG_LENGTH;
 use crate::numbers::{RECORD_NUMBERS, put_numbers, record_of};
-use saved::{load, save};
+use saved::{fresh_record, load, save};
+use text::outcomes::{Refusal, done};
 
 // Saves the record of 40 numbers in 94 bytes.
 pub fn simp_save(numbers: &[u64], bytes: &mut [u8]) -> u32
@@ -12,8 +13,7 @@ pub fn simp_save(numbers: &[u64], bytes: &mut [u8]) -> u32
     if numbers.len() != RECORD_NUMBERS {
         return WRONG_LENGTH;
     }
-    let outcome = save(record_of(numbers), bytes).outcome();
-    outcome.number
+    done(save(record_of(numbers), bytes)).number
 }
 
 // Reads 94 bytes of edition 2, or 91 of edition 1, into the 40 numbers of a record.
@@ -23,10 +23,14 @@ pub fn simp_load(bytes: &[u8], numbers: &mut [u64]) -> u32
     if numbers.len() != RECORD_NUMBERS {
         return WRONG_LENGTH;
     }
-    let l = load(bytes);
-    let answer = l.answer;
-    let state = l.state;
-    put_numbers(state, numbers);
-    let outcome = answer.outcome();
-    outcome.number
+    match load(bytes) {
+        Ok(state) => {
+            put_numbers(state, numbers);
+            0
+        }
+        Err(error) => {
+            put_numbers(fresh_record(), numbers);
+            error.outcome().number
+        }
+    }
 }

@@ -1,4 +1,5 @@
 // A run.
+// Stays (1, 4, 6): the C interface has a report as three numbers, and keeps the record's where the number is not 0.
 ghost use Rattle.std.specs.Prelude.{◌≡◌, cond, [], ◌∷◌, eqb, length};
 ghost use Rattle.simp.specs.Numbers.{record_numbers, numbers_of};
 ghost use Rattle.simp.specs.Runs.{report_numbers, simp_run, Runs};
@@ -42,12 +43,10 @@ pub fn simp_run(
         budget,
         log,
     );
-    let state = r.state;
-    let answer = r.answer;
-    let outcome = answer.outcome();
-    put_report(r.cycles, r.bytes as u64, answer.reason(), report);
-    put_record(outcome.number, state, numbers);
-    outcome.number
+    put_report(r.cycles, r.bytes as u64, r.reason(), report);
+    let number = r.outcome().number;
+    put_record(number, r.state, numbers);
+    number
 }
 
 // Sets the three numbers of a report.

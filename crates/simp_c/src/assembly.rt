@@ -1,4 +1,5 @@
 // Assembling and listing.
+// Stays (2): the C interface, as exports of the calls of simp.
 ghost use Rattle.simp.specs.Assembly.{Assembles, Lists};
 
 // Assembles a text into an image and a data memory.

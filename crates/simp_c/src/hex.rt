@@ -1,4 +1,5 @@
 // Intel HEX, read and written.
+// Stays (2): the C interface, as exports of the calls of simp.
 ghost use Rattle.std.specs.Prelude.{length};
 ghost use Rattle.files.specs.Sizes.{data_words, disk_words, is_data_length, is_disk_length};
 ghost use Rattle.intel_hex.specs.Writing.{hex_text};

@@ -1,4 +1,5 @@
 // The memory files and the irq2 file, read and written.
+// Stays (2): the C interface, as exports of the calls of simp.
 ghost use Rattle.std.specs.Prelude.{length};
 ghost use Rattle.files.specs.Sizes.{is_image_length, is_data_length, is_frame_length, is_part_length, is_disk_part, image_digits, word_digits, frame_digits};
 ghost use Rattle.files.specs.MemoryFile.{file_text, sectors_of};

@@ -1,4 +1,5 @@
 // Records saved and read.
+// Stays (2): the C interface, as exports of the calls of simp.
 ghost use Rattle.simp.specs.Records.{Saves, Loads};
 
 // Saves the record of 40 numbers in 94 bytes.

@@ -1,4 +1,5 @@
 // A run.
+// Stays (2): the C interface, as an export of the call of simp.
 ghost use Rattle.simp.specs.Runs.{simp_run, Runs};
 
 // Runs the machine of 40 numbers and lent memories.

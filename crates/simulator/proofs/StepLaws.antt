@@ -1,11 +1,11 @@
 -- Steps 1 and 5 to 7, and instructions that log nothing but T. Assumes nothing.
-use Prim.Native.Nat.{ℕ, zero, suc, ◌+◌, ◌-◌, ◌<◌}
-use mathlib.Core.Path.{◌≡◌, refl, ap}
+use Prim.Native.Nat.{ℕ, zero, suc, ◌+◌, ◌-◌, ◌^◌, ◌<◌}
+use mathlib.Core.Path.{◌≡◌, refl, sym, ap, subst}
 use mathlib.Core.Bool.{Bool, true, false, cond}
 use mathlib.Core.List.{List, []}
 use native.Mathlib.Omega.{arith}
 use lib.Dec.{ltb}
-use lib.ListN.{set}
+use lib.ListN.{set, drop}
 use borrow.Author.Tests.{ltb-true, ltb-false}
 use Rattle.devices.specs.declared.Drive.{Drive}
 use Rattle.devices.specs.Bus.{Bus, bus}
@@ -18,7 +18,9 @@ use Rattle.machine.specs.declared.Operands.{Operands}
 use Rattle.machine.specs.State.{core_drive, core_age, with_age, with_bus}
 use Rattle.executor.specs.Lent.{packed}
 use Rattle.machine.specs.Interrupts.{irq2_raised}
-use Rattle.machine.specs.Cycle.{finished}
+use Rattle.machine.specs.Cycle.{finished, at_fetch}
+use Rattle.machine.specs.Soundness.{Sound}
+use Rattle.machine.proofs.SoundLaws.{SoundMachine, sound-at_fetch}
 use Rattle.machine.specs.Log.{io_lines}
 
 -- The I/O registers after step 1.
@@ -27,6 +29,12 @@ pub raised_is : (c : Core) (regs io after memory disk frame : List ℕ) (hit : B
 unfolding irq2_raised
 raised_is c regs io after memory disk frame true e = ap (λ (x : List ℕ). packed c regs x memory disk frame) e
 raised_is c regs io after memory disk frame false e = ap (λ (x : List ℕ). packed c regs x memory disk frame) e
+
+-- A sound machine is sound at the fetch.
+pub sound-begun : (hit : Bool) (c s : Core) (regs io after memory disk frame : List ℕ) → Sound c (drop 3 regs) io
+    → packed s regs after memory disk frame ≡ at_fetch hit (packed c regs io memory disk frame) → Sound s (drop 3 regs) after
+sound-begun hit c s regs io after memory disk frame sound e =
+    (subst (SoundMachine (2 ^ 40)) (sym e) (sound-at_fetch (2 ^ 40) hit (packed c regs io memory disk frame) (record { record_is = sound }))).record_is
 
 -- The devices' steps and the age are steps 5 to 7.
 pub finished-is : (began : ℕ) (c : Core) (d : Drive) (regs io after memory moved disk sectors frame : List ℕ)

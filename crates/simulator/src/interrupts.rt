@@ -1,4 +1,5 @@
 // Steps 1 and 2 of a cycle.
+// Stays (5): the registers are lent for these two steps alone.
 ghost use Rattle.std.specs.Prelude.{◌≡◌, cond, ◌&&◌, List, ℕ, eqb, set};
 ghost use Rattle.isa.specs.Registers.{irq2status};
 ghost use Rattle.machine.specs.Interrupts.{is_requested, interrupted};
@@ -47,20 +48,13 @@ fn enter_handler(c: Core, io: &mut [u32; 23]) -> Core
 fn is_requested(io: &[u32; 23]) -> bool
     ensures { result ≡ is_requested io.now }
 {
-    if are_both(io[IRQ0ENABLE], io[IRQ0STATUS]) {
-        return true;
-    }
-    if are_both(io[IRQ1ENABLE], io[IRQ1STATUS]) {
-        return true;
-    }
-    are_both(io[IRQ2ENABLE], io[IRQ2STATUS])
+    are_both(io[IRQ0ENABLE], io[IRQ0STATUS])
+        || are_both(io[IRQ1ENABLE], io[IRQ1STATUS])
+        || are_both(io[IRQ2ENABLE], io[IRQ2STATUS])
 }
 
 fn are_both(enable: u32, status: u32) -> bool
     ensures { result ≡ (eqb enable 1 && eqb status 1) }
 {
-    if enable != 1 {
-        return false;
-    }
-    status == 1
+    enable == 1 && status == 1
 }

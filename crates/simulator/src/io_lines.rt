@@ -1,16 +1,20 @@
 // The lines H, L and D of an instruction, from the I/O registers before it.
+// Stays (1, 2, 4, 7): in and out are matched by their opcodes (a decoded kind made a cycle slower: docs/DECISIONS.md); lines are put into the lent log, lengths.rt measures
+// them without one.
 ghost use Rattle.std.specs.Prelude.{cond, not, [], ◌∷◌, ◌+◌, ◌≤◌, eqb, length};
-ghost use Rattle.text.specs.Numerals.{HexWords};
 ghost use Rattle.text.specs.Place.{Puts};
 ghost use Rattle.isa.specs.Operations.{operation_of, input, output};
 ghost use Rattle.trace.specs.LogLines.{line_ld};
-ghost use Rattle.trace.specs.Prefixes.{ValidFor};
+ghost use Rattle.trace.specs.ValidPrefixes.{ValidFor};
 ghost use Rattle.machine.specs.Log.{change_lines, io_lines};
 
+use isa::Access;
 use isa::io::{DISPLAY7SEG, LEDS, is_listed};
 use isa::opcodes::{IN, OUT};
 use machine::Operands;
+use text::hex_words::HexTable;
 use trace::log_lines::{put_line_h, put_line_ld};
+use trace::prefixes::Prefix;
 use words::arithmetic::plus;
 
 // Puts the lines of an instruction at a place and returns the place after them; `c` is the cycle, which the prefix is valid for.
@@ -21,10 +25,10 @@ pub fn put_io_lines(
     op: u32,
     o: Operands,
     io: &[u32; 23],
-    table: &[u64; 1024],
-    prefix: &[u64; 7],
+    table: &HexTable,
+    prefix: &Prefix,
 ) -> usize
-    requires { (at + length (io_lines c (operation_of op) o io.now) ≤ length log.old) × (HexWords table.now × ValidFor c prefix.now) }
+    requires { (at + length (io_lines c (operation_of op) o io.now) ≤ length log.old) × ValidFor c prefix.now }
     ensures { Puts log.old at (io_lines c (operation_of op) o io.now) result log.new }
 {
     match op {
@@ -41,15 +45,15 @@ fn put_read_line(
     c: u64,
     o: Operands,
     io: &[u32; 23],
-    table: &[u64; 1024],
-    prefix: &[u64; 7],
+    table: &HexTable,
+    prefix: &Prefix,
 ) -> usize
-    requires { (at + length (io_lines c input o io.now) ≤ length log.old) × (HexWords table.now × ValidFor c prefix.now) }
+    requires { (at + length (io_lines c input o io.now) ≤ length log.old) × ValidFor c prefix.now }
     ensures { Puts log.old at (io_lines c input o io.now) result log.new }
 {
     let a = plus(o.rs, o.rt);
     if is_listed(a) {
-        return put_line_h(log, at, c, false, a, io[a as usize], table, prefix);
+        return put_line_h(log, at, c, Access::Read, a, io[a as usize], table, prefix);
     }
     at
 }
@@ -61,15 +65,15 @@ fn put_write_lines(
     c: u64,
     o: Operands,
     io: &[u32; 23],
-    table: &[u64; 1024],
-    prefix: &[u64; 7],
+    table: &HexTable,
+    prefix: &Prefix,
 ) -> usize
-    requires { (at + length (io_lines c output o io.now) ≤ length log.old) × (HexWords table.now × ValidFor c prefix.now) }
+    requires { (at + length (io_lines c output o io.now) ≤ length log.old) × ValidFor c prefix.now }
     ensures { Puts log.old at (io_lines c output o io.now) result log.new }
 {
     let a = plus(o.rs, o.rt);
     if is_listed(a) {
-        let change_at = put_line_h(log, at, c, true, a, o.rm, table, prefix);
+        let change_at = put_line_h(log, at, c, Access::Write, a, o.rm, table, prefix);
         return put_change_line(log, change_at, c, a, o.rm, io, table, prefix);
     }
     at
@@ -83,10 +87,10 @@ fn put_change_line(
     n: u32,
     x: u32,
     io: &[u32; 23],
-    table: &[u64; 1024],
-    prefix: &[u64; 7],
+    table: &HexTable,
+    prefix: &Prefix,
 ) -> usize
-    requires { (at + length (change_lines c n x io.now) ≤ length log.old) × (HexWords table.now × ValidFor c prefix.now) }
+    requires { (at + length (change_lines c n x io.now) ≤ length log.old) × ValidFor c prefix.now }
     ensures { Puts log.old at (change_lines c n x io.now) result log.new }
 {
     match n {
@@ -104,10 +108,10 @@ fn put_if_new(
     c: u64,
     x: u32,
     before: u32,
-    table: &[u64; 1024],
-    prefix: &[u64; 7],
+    table: &HexTable,
+    prefix: &Prefix,
 ) -> usize
-    requires { (at + length (cond (not (eqb x before)) (line_ld (letter ∷ []) c x) []) ≤ length log.old) × (HexWords table.now × ValidFor c prefix.now) }
+    requires { (at + length (cond (not (eqb x before)) (line_ld (letter ∷ []) c x) []) ≤ length log.old) × ValidFor c prefix.now }
     ensures { Puts log.old at (cond (not (eqb x before)) (line_ld (letter ∷ []) c x) []) result log.new }
 {
     if x == before {

@@ -1,4 +1,5 @@
 // How many bytes the lines of the next cycle have, known before anything is changed.
+// Stays (1, 2, 7): lines are measured before anything is changed, so without a log; the register's number is the one that a program computed.
 ghost use Rattle.std.specs.Prelude.{◌≡◌, cond, not, List, [], ◌∷◌, ℕ, ◌^◌, ◌<◌, eqb, length, get_or, drop};
 ghost use Rattle.isa.specs.Operations.{operation_of, input, output};
 ghost use Rattle.trace.specs.LogLines.{line_ld};
@@ -23,7 +24,7 @@ const LINE_T: usize = 163;
 // How many bytes the next cycle logs. `hit`: the age is in the irq2 list.
 pub fn lines_length(c: Core, hit: bool, regs: &[u32; 16], io: &[u32; 23], image: &[u64]) -> usize
     requires sound { Sound c (drop 3 regs.now) io.now }
-    requires regs_len { (length regs.now ≡ 16) × ((get_or regs.now 0 0 ≡ 0) × (length image.now ≡ 4096)) }
+    requires sized { (length regs.now ≡ 16) × (get_or regs.now 0 0 ≡ 0) × (length image.now ≡ 4096) }
     ensures { (memory disk frame : List ℕ) → result ≡ length (lines_at_fetch image.now (at_fetch hit (packed c regs.now io.now memory disk frame))) }
 {
     let mut io_then = *io;
@@ -39,11 +40,12 @@ fn io_lines_length(c: u64, op: u32, o: Operands, io: &[u32; 23]) -> usize
     requires { c < 2 ^ 40 }
     ensures { result ≡ length (io_lines c (operation_of op) o io.now) }
 {
-    let access = decode_opcode(op);
+    let Some(access) = decode_opcode(op) else {
+        return 0;
+    };
     match access {
         Access::Read => read_length(c, o),
         Access::Write => write_length(c, o, io),
-        Access::Nothing => 0,
     }
 }
 
@@ -53,7 +55,7 @@ fn read_length(c: u64, o: Operands) -> usize
 {
     let a = plus(o.rs, o.rt);
     if is_listed(a) {
-        return line_h_length(c, false, a);
+        return line_h_length(c, Access::Read, a);
     }
     0
 }
@@ -65,7 +67,7 @@ fn write_length(c: u64, o: Operands, io: &[u32; 23]) -> usize
 {
     let a = plus(o.rs, o.rt);
     if is_listed(a) {
-        return line_h_length(c, true, a) + change_length(c, a, o.rm, io);
+        return line_h_length(c, Access::Write, a) + change_length(c, a, o.rm, io);
     }
     0
 }

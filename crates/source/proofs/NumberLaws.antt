@@ -8,14 +8,12 @@ use native.Mathlib.Omega.{arith}
 use lib.Dec.{ltb, leb}
 use lib.ListN.{length, take, drop, length-drop, take-append-drop}
 use lib.Seq.{take_all}
-use borrow.Author.Tests.{le-leb, lt-leb, ne_eqb}
+use Rattle.std.specs.Prelude.{Option, Some, None}
 use Rattle.text.specs.Bytes.{bytes}
-use Rattle.text.specs.Numerals.{digit_value, all_digits, numeral}
-use Rattle.text.specs.declared.Numeral.{Numeral}
-use Rattle.text.specs.declared.Numeral.TheVariants.{NoNumeral}
+use Rattle.text.specs.Numerals.{digit_value, all_digits}
 use Rattle.source.specs.declared.Number.{Number}
 use Rattle.source.specs.declared.Prefix.{Prefix}
-use Rattle.source.specs.declared.Number.TheVariants.{Decimal, Minus, Unsigned, NoNumber}
+use Rattle.source.specs.declared.Number.TheVariants.{Decimal, Unsigned}
 use Rattle.source.specs.Numbers.{digits_up_to, written, decimal_digits, decimal_number, prefix, prefix_of, unsigned, number, is_number}
 use Rattle.source.specs.Names.{is_name}
 use Rattle.text.specs.Same.{same}
@@ -25,31 +23,14 @@ use Rattle.text.proofs.Truth.{and_left, and_right, either}
 -- ---- so many digits
 
 module _ (base most : ℕ) (s : List ℕ) where
-  pub no_digits : length s ≡ 0 → NoNumeral ≡ digits_up_to base most s
-  no_digits e = rw (lt-leb 1 (length s) (omega arith))
-
-  pub many-digits : 1 ≤ length s → most < length s → NoNumeral ≡ digits_up_to base most s
-  many-digits some h = rw (le-leb 1 (length s) some, lt-leb (length s) most h)
-
-  pub few-digits : 1 ≤ length s → length s ≤ most → (r : Numeral) → r ≡ numeral base s → r ≡ digits_up_to base most s
-  few-digits some h r e = rw (le-leb 1 (length s) some, le-leb (length s) most h) e
-
   pub digits-fit : 0 < base → base ^ most ≤ 2 ^ 64 → length s ≤ most → base ^ length s ≤ 2 ^ 64
   digits-fit pos room h = le_trans (pow-le-pow_right {n = base} pos h) room
 
 -- ---- the ways to write a number
 
--- Digits are read of the rest of a token after its first bytes.
-rest_read : (base most start : ℕ) (t : List ℕ) (n : Numeral) → n ≡ digits_up_to base most (take (length t - start) (drop start t)) → n ≡ digits_up_to base most (drop start t)
-rest_read base most start t n q = q ∙ ap (digits_up_to base most) (take_all (length t - start) (drop start t) (rw length-drop (omega arith)))
-
--- A decimal number, with its sign or without.
-module _ (t : List ℕ) (a : Bool) (minus : a ≡ same (take 1 t) (bytes "-")) (n : Numeral) (r : Number) where
-  pub is-minus : a ≡ true → n ≡ digits_up_to 10 decimal_digits (take (length t - 1) (drop 1 t)) → r ≡ written Minus n → r ≡ decimal_number t
-  is-minus e q p = rw (← minus, e) (p ∙ ap (written Minus) (rest_read 10 decimal_digits 1 t n q))
-
-  pub is-decimal : a ≡ false → n ≡ digits_up_to 10 decimal_digits t → r ≡ written Decimal n → r ≡ decimal_number t
-  is-decimal e q p = rw (← minus, e) (p ∙ ap (written Decimal) q)
+-- The rest of a token after its first bytes.
+pub rest_of : (start : ℕ) (t : List ℕ) → take (length t - start) (drop start t) ≡ drop start t
+rest_of start t = take_all (length t - start) (drop start t) (rw length-drop (omega arith))
 
 -- A prefix has two bytes, and its digits fit 64 bits.
 pub record PrefixFits (p : Prefix) (t : List ℕ) : Type 0 where
@@ -58,29 +39,24 @@ pub record PrefixFits (p : Prefix) (t : List ℕ) : Type 0 where
   pub base : p.base ≤ 16
   pub fits : p.base ^ p.most ≤ 2 ^ 64
 
-module _ (t : List ℕ) (p : Prefix) (is : p ≡ prefix_of t) where
-  -- No prefix, ..
-  pub not_prefixed : p.base ≡ 0 → (r : Number) → r ≡ decimal_number t → r ≡ number t
-  unfolding number
-  not_prefixed e r q = rw (← is, e) q
+pub prefix-fits : (t : List ℕ) (p : Prefix) → Some p ≡ prefix_of t → PrefixFits p t
+prefix-fits t p is = go (same (take 2 t) (bytes "0x")) refl (same (take 2 t) (bytes "0b")) refl
+  where
+    go : (x : Bool) → same (take 2 t) (bytes "0x") ≡ x → (b : Bool) → same (take 2 t) (bytes "0b") ≡ b → PrefixFits p t
+    go true h b k =
+        let whole : Some p ≡ Some (prefix 16 8) = is ∙ rw h in
+        let this : p ≡ prefix 16 8 = cc in
+        rw this (record { room = front-room t (bytes "0x") true (sym h) refl; some = omega arith; base = omega arith; fits = omega arith })
+    go false h true k =
+        let whole : Some p ≡ Some (prefix 2 32) = is ∙ rw (h, k) in
+        let this : p ≡ prefix 2 32 = cc in
+        rw this (record { room = front-room t (bytes "0b") true (sym k) refl; some = omega arith; base = omega arith; fits = omega arith })
+    go false h false k = let none : Some p ≡ None = is ∙ rw (h, k) in absurd (cc)
 
-  module _ (some : p.base ≡ 0 → ⊥) where
-    -- .. or one, after which digits are read.
-    pub prefixed : (n : Numeral) → n ≡ digits_up_to p.base p.most (take (length t - 2) (drop 2 t)) → (r : Number) → r ≡ written Unsigned n → r ≡ number t
-    unfolding number
-    prefixed n q r e = rw (← is, ne_eqb p.base 0 some) (e ∙ ap (written Unsigned) (rest_read p.base p.most 2 t n q))
-
-    pub prefix-fits : PrefixFits p t
-    prefix-fits = go (same (take 2 t) (bytes "0x")) refl (same (take 2 t) (bytes "0b")) refl
-      where
-        go : (x : Bool) → same (take 2 t) (bytes "0x") ≡ x → (b : Bool) → same (take 2 t) (bytes "0b") ≡ b → PrefixFits p t
-        go true h b k =
-            let this : p ≡ prefix 16 8 = is ∙ rw h in
-            rw this (record { room = front-room t (bytes "0x") true (sym h) refl; some = omega arith; base = omega arith; fits = omega arith })
-        go false h true k =
-            let this : p ≡ prefix 2 32 = is ∙ rw (h, k) in
-            rw this (record { room = front-room t (bytes "0b") true (sym k) refl; some = omega arith; base = omega arith; fits = omega arith })
-        go false h false k = let this : p ≡ prefix 0 0 = is ∙ rw (h, k) in absurd (some (ap (λ (q : Prefix). q.base) this))
+-- After a prefix digits are read.
+pub prefixed : (t : List ℕ) (p : Prefix) → Some p ≡ prefix_of t → (n : Option ℕ) → n ≡ digits_up_to p.base p.most (take (length t - 2) (drop 2 t)) → (r : Option Number) → r ≡ written Unsigned n → r ≡ number t
+unfolding number
+prefixed t p is n q r e = rw (← is) (e ∙ ap (written Unsigned) (q ∙ ap (digits_up_to p.base p.most) (rest_of 2 t)))
 
 -- ---- what digits of a base begin with
 
@@ -108,18 +84,18 @@ module _ (t : List ℕ) (begins : same (take 2 t) (bytes "0b") ≡ true) where
   whole : t ≡ bytes "0b" ++ drop 2 t
   whole = sym (take-append-drop 2 t) ∙ ap (λ (u : List ℕ). u ++ drop 2 t) (same_equal _ _ begins)
 
-  binary_no_decimal : decimal_number t ≡ NoNumber
+  binary_no_decimal : decimal_number t ≡ None
   unfolding all_digits same
   binary_no_decimal =
       rw whole
-      (either (λ (n : Numeral). written Decimal n ≡ NoNumber) (leb 1 (length (bytes "0b" ++ drop 2 t)) && leb (length (bytes "0b" ++ drop 2 t)) decimal_digits) refl refl)
+      (either (λ (n : Option ℕ). written Decimal n ≡ None) (leb 1 (length (bytes "0b" ++ drop 2 t)) && leb (length (bytes "0b" ++ drop 2 t)) decimal_digits) refl refl)
 
   binary_no_name : is_name t ≡ false
   unfolding is_name
   binary_no_name = rw whole
 
 -- The number that a token is by document 01 alone.
-abbrev pub number_before : List ℕ → Number
+abbrev pub number_before : List ℕ → Option Number
 number_before t = cond (same (take 2 t) (bytes "0x")) (unsigned (prefix 16 8) t) (decimal_number t)
 
 -- What was a number or a label there is the same number, or a label, now.

@@ -1,14 +1,15 @@
 -- A line's tokens compared with a shape, one after the other. Assumes nothing.
-use Prim.Native.Nat.{ℕ, suc, ◌+◌, ◌*◌, ◌≤◌, ◌<◌}
+use Prim.Native.Nat.{ℕ, suc, ◌+◌, ◌≤◌, ◌<◌}
 use mathlib.Core.Path.{◌≡◌, refl, sym, ◌∙◌, ap}
 use mathlib.Core.Bool.{Bool, true, false, ◌&&◌}
 use mathlib.Core.List.{List, [], ◌∷◌}
 use native.Mathlib.Numerals.{add-one}
 use native.Mathlib.Omega.{arith}
-use lib.Dec.{leb}
+use lib.Dec.{ltb}
 use lib.ListN.{length, get_or, drop, drop_of_length-le}
 use lib.Seq.{drop-cons}
-use borrow.Author.Tests.{leb-true, leb-false}
+use borrow.Author.Tests.{ltb-true, ltb-false}
+use Rattle.source.specs.declared.Span.{Span}
 use Rattle.source.specs.Tokens.{tokens, texts}
 use Rattle.source.specs.Spans.{Split}
 use Rattle.source.specs.Shapes.{fits, matches}
@@ -27,18 +28,18 @@ other_number directive (g ∷ gs) (t ∷ ts) n = either (fits directive g t) (ot
     either true e = e
     either false e = refl
 
-module _ {line places : List ℕ} {n : ℕ} (s : Split line places n) (shape : List ℕ) (room : 2 * length shape + 2 ≤ length places) where
+module _ {line : List ℕ} {spans : List Span} {n : ℕ} (s : Split line spans n) (shape : List ℕ) (room : length shape < length spans) where
   -- A shape of as many signs as the line was split into has as many as it has tokens, ..
   pub as_many : length shape ≡ n → length (texts (tokens line)) ≡ length shape
   as_many e = s.few (omega arith) ∙ sym e
 
   -- .. and one of another number has not.
   pub not_as_many : (length shape ≡ n → ⊥) → length shape ≡ length (texts (tokens line)) → ⊥
-  not_as_many differ e = go (leb (2 * n + 2) (length places)) refl
+  not_as_many differ e = go (ltb n (length spans)) refl
     where
-      go : (b : Bool) → leb (2 * n + 2) (length places) ≡ b → ⊥
-      go true q = differ (e ∙ s.few (leb-true (2 * n + 2) (length places) q))
-      go false q = let h = leb-false (2 * n + 2) (length places) q in let more = s.many in omega arith
+      go : (b : Bool) → ltb n (length spans) ≡ b → ⊥
+      go true q = differ (e ∙ s.few (ltb-true n (length spans) q))
+      go false q = let h = ltb-false n (length spans) q in let more = s.many in let within = s.within in omega arith
 
 -- ---- one sign after the other
 

@@ -12,7 +12,8 @@ use lib.Seq.{drop-cons, get_or-drop, take-suc, append_snoc}
 use Rattle.source.specs.Bytes.{is_blank}
 use Rattle.source.specs.Tokens.{Token, token, closes, follows, is_joined, joined, tokens_from}
 use Rattle.text.proofs.Truth.{and_right, neither}
-use Rattle.source.specs.Spans.{Begins, StartsAt, EndsAt, TokenAt}
+use Rattle.std.specs.Prelude.{None, Some}
+use Rattle.source.specs.Spans.{Begins, FirstStart, StartsAt, EndsAt, FirstToken}
 
 module _ (l : List ℕ) (i : ℕ) where
   -- None is left at the end.
@@ -47,9 +48,6 @@ module _ (l : List ℕ) (i : ℕ) where
 
 -- ---- where a token starts
 
-pub starts-at-end : (l : List ℕ) (p i : ℕ) → p ≤ i → i ≡ length l → tokens_from p (drop p l) ≡ tokens_from i (drop i l) → StartsAt l p i
-starts-at-end l p i h e same = record { from = h; within = omega arith; same = same; begins = λ k. absurd (omega arith) }
-
 -- The blanks from p to i are skipped.
 pub record Skipped (l : List ℕ) (p i : ℕ) : Type 0 where
   pub from : p ≤ i
@@ -65,18 +63,15 @@ module _ {l : List ℕ} {p i : ℕ} (s : Skipped l p i) where
       let from = s.from in
       record { from = omega arith; within = omega arith; same = s.same ∙ skipped l i h (sym is ∙ e) }
 
-  pub starts_nowhere : length l ≤ i → StartsAt l p i
-  starts_nowhere h = let most = s.within in starts-at-end l p i s.from (omega arith) s.same
+  pub starts_nowhere : length l ≤ i → StartsAt l p None
+  starts_nowhere h = s.same ∙ at-end l i h
 
-  pub starts_in_comment : i < length l → (t : Bool) → t ≡ is_blank (get_or l i 0) → t ≡ false → get_or l i 0 ≡ 35 → StartsAt l p (length l)
-  starts_in_comment h t is e f =
-      let from = s.from in
-      starts-at-end l p (length l) (omega arith) refl
-      (s.same ∙ commented l i h (sym is ∙ e) (eq-eqb (get_or l i 0) 35 f) ∙ sym (at-end l (length l) (omega arith)))
+  pub starts_in_comment : i < length l → get_or l i 0 ≡ 35 → StartsAt l p None
+  starts_in_comment h e = s.same ∙ commented l i h (ap is_blank e) (eq-eqb (get_or l i 0) 35 e)
 
-  pub starts-here : i < length l → (t : Bool) → t ≡ is_blank (get_or l i 0) → t ≡ false → (get_or l i 0 ≡ 35 → ⊥) → StartsAt l p i
+  pub starts-here : i < length l → (t : Bool) → t ≡ is_blank (get_or l i 0) → t ≡ false → (get_or l i 0 ≡ 35 → ⊥) → StartsAt l p (Some i)
   starts-here h t is e n =
-      record { from = s.from; within = s.within; same = s.same; begins = λ k. record { blank = sym is ∙ e; comment = ne_eqb (get_or l i 0) 35 n } }
+      record { from = s.from; within = h; same = s.same; begins = record { blank = sym is ∙ e; comment = ne_eqb (get_or l i 0) 35 n } }
 
 -- ---- where it ends
 
@@ -147,25 +142,16 @@ module _ {l : List ℕ} {a i : ℕ} (w : Within l a i) (t : Bool) (is : t ≡ is
             ∙ ap (λ (x : List ℕ). token a x ∷ tokens_from (i + 1) (drop (i + 1) l)) (sym (grown l a i from inside));
       }
 
+-- It is the line's last byte.
+pub ends_with_line : {l : List ℕ} {a i : ℕ} → Within l a i → i + 1 ≡ length l → EndsAt l a (length l)
+ends_with_line {l} {a} {i} w e = rw (← e) (ends-here w false (sym (ap (is_joined (get_or l i 0)) (drop_of_length-le l {i = i + 1} (omega arith)))) refl)
+
 -- ---- the next token
 
-pub token_nowhere : (l : List ℕ) (p : ℕ) (s : ℕ) → StartsAt l p s → s ≡ length l → TokenAt l p (record { start = s; end = s })
-token_nowhere l p s a e =
-    record { from = a.from; order = omega arith; within = omega arith; none = λ h. a.same ∙ at-end l s (omega arith); some = λ h. absurd (omega arith) }
-
-pub token-there : (l : List ℕ) (p s r : ℕ) → StartsAt l p s → EndsAt l s r → TokenAt l p (record { start = s; end = r })
-token-there l p s r a b =
-    let after = b.after in
-    record { from = a.from; order = omega arith; within = b.within; none = λ h. absurd (omega arith); some = λ h. a.same ∙ b.is }
+pub token-there : {l : List ℕ} {p s r : ℕ} → FirstStart l p s → EndsAt l s r → FirstToken l p (record { start = s; end = r })
+token-there a b = record { from = a.from; order = b.after; within = b.within; is = a.same ∙ b.is }
 
 -- ---- whether two bytes are of one token
 
-pub joined-at-end : (l : List ℕ) (i b : ℕ) → i + 1 ≡ length l → false ≡ is_joined b (drop (i + 1) l)
-joined-at-end l i b e = sym (ap (is_joined b) (drop_of_length-le l {i = i + 1} (omega arith)))
-
-pub joined_closing : (b : ℕ) (s : List ℕ) (r : Bool) → r ≡ closes b → r ≡ true → false ≡ is_joined b s
-joined_closing b [] r is e = refl
-joined_closing b (c ∷ s) r is e = rw (← is, e)
-
-pub joined_following : (l : List ℕ) (i b : ℕ) → i + 1 < length l → (r : Bool) → r ≡ closes b → r ≡ false → (u : Bool) → u ≡ follows (get_or l (i + 1) 0) → u ≡ is_joined b (drop (i + 1) l)
-joined_following l i b h r is e u q = rw (drop-cons l (i + 1) 0 h, ← is, e) q
+pub joined_pair : (l : List ℕ) (i : ℕ) → i + 1 < length l → is_joined (get_or l i 0) (get_or l (i + 1) 0 ∷ []) ≡ is_joined (get_or l i 0) (drop (i + 1) l)
+joined_pair l i h = rw (drop-cons l (i + 1) 0 h)

@@ -1,5 +1,6 @@
 -- The bytes of a line.
-use Rattle.std.specs.Prelude.{ℕ, Bool, true, ◌&&◌, ◌||◌, List, [], ◌∷◌, eqb, leb, length}
+use Rattle.std.specs.Prelude.{ℕ, Bool, ◌&&◌, ◌||◌, List, eqb, leb, length}
+use Rattle.std.specs.List.{list_all}
 use Prim.Native.Char.{code}
 use Rattle.text.specs.Numerals.{is_between}
 
@@ -14,9 +15,8 @@ abbrev pub is_letter_or_digit : ℕ → Bool
 is_letter_or_digit b = is_letter b || is_between "0" "9" b
 
 -- Each byte passes a test.
-unfoldable pub are_all : (ℕ → Bool) → List ℕ → Bool
-are_all test [] = true
-are_all test (b ∷ s) = test b && are_all test s
+abbrev pub are_all : (ℕ → Bool) → List ℕ → Bool
+are_all test s = list_all test s
 
 -- "at most 500 bytes before the LF or the end, all blanks or 33 to 126? 2"
 abbrev pub is_allowed : ℕ → Bool

@@ -1,10 +1,10 @@
 -- Bytes, tokens, numbers and names, computed: the decided open points A4 to A11 and B1 to B5 as far as they need no dialect.
-use Rattle.std.specs.Prelude.{ℕ, ◌≡◌, refl, true, false, List, [], ◌∷◌, ◌++◌, map, replicate}
+use Rattle.std.specs.Prelude.{ℕ, ◌≡◌, refl, true, false, Some, None, List, [], ◌∷◌, ◌++◌, map, replicate}
 use Prim.Native.String.{String}
 use Rattle.text.specs.Bytes.{bytes}
 use Rattle.text.specs.Numerals.{all_digits, value}
-use Rattle.source.specs.declared.Number.TheVariants.{Decimal, Minus, Unsigned, NoNumber}
-use Rattle.source.specs.Bytes.{is_allowed, are_all, are_right_bytes}
+use Rattle.source.specs.declared.Number.TheVariants.{Decimal, Minus, Unsigned}
+use Rattle.source.specs.Bytes.{is_allowed, are_right_bytes}
 use Rattle.source.specs.Tokens.{token, tokens_from, tokens, texts}
 use Rattle.source.specs.Numbers.{number}
 use Rattle.text.specs.Same.{same}
@@ -23,7 +23,7 @@ right-bytes : map are_right_bytes
     (bytes "add # ~" ∷ replicate 500 35 ∷ replicate 501 35 ∷ (replicate 499 35 ++ bytes "\r") ∷ (replicate 500 35 ++ bytes "\r") ∷ (35 ∷ 11 ∷ [])
     ∷ (0xEF ∷ 0xBB ∷ 0xBF ∷ []) ∷ [])
     ≡ true ∷ true ∷ false ∷ true ∷ false ∷ false ∷ false ∷ []
-unfolding are_right_bytes are_all
+unfolding are_right_bytes
 right-bytes = refl
 
 -- ---- tokens
@@ -51,8 +51,9 @@ colons = refl
 -- A7, A8: digits of either case after `0x`; `-0` is a number; `-` is not among the ten digits; leading zeros up to ten digits (eight), and no octal.
 numbers : map (λ (s : String). number (bytes s))
     ("4095" ∷ "-2048" ∷ "-0" ∷ "-1234567890" ∷ "0xFf" ∷ "0xABCDEF09" ∷ "0000000001" ∷ "0x00000001" ∷ "010" ∷ "9999999999" ∷ [])
-    ≡ Decimal 4095 ∷ Minus 2048 ∷ Minus 0 ∷ Minus 1234567890 ∷ Unsigned 255 ∷ Unsigned 2882400009 ∷ Decimal 1 ∷ Unsigned 1 ∷ Decimal 10
-    ∷ Decimal 9999999999 ∷ []
+    ≡ map Some
+    (Decimal 4095 ∷ Minus 2048 ∷ Minus 0 ∷ Minus 1234567890 ∷ Unsigned 255 ∷ Unsigned 2882400009 ∷ Decimal 1 ∷ Unsigned 1 ∷ Decimal 10
+    ∷ Decimal 9999999999 ∷ [])
 unfolding number same all_digits value
 numbers = refl
 
@@ -60,26 +61,26 @@ numbers = refl
 no_numbers : map (λ (s : String). number (bytes s))
     ("0X1" ∷ "0x" ∷ "0x123456789" ∷ "0xG" ∷ "-0x1" ∷ "+1" ∷ "--1" ∷ "-" ∷ "1-" ∷ "12345678901" ∷ "00000000001" ∷ "-12345678901" ∷ "1a" ∷ "A0" ∷ ""
     ∷ [])
-    ≡ replicate 15 NoNumber
+    ≡ replicate 15 None
 unfolding number same all_digits value
 no_numbers = refl
 
 -- B1: 1 to 32 binary digits, leading zeros among them; ..
 binary_numbers : map number
     (bytes "0b1010" ∷ bytes "0b0" ∷ bytes "0b10000000000000000001" ∷ (bytes "0b" ++ replicate 32 49) ∷ (bytes "0b" ++ replicate 31 48 ++ bytes "1") ∷ [])
-    ≡ Unsigned 10 ∷ Unsigned 0 ∷ Unsigned 0x80001 ∷ Unsigned 0xFFFFFFFF ∷ Unsigned 1 ∷ []
+    ≡ map Some (Unsigned 10 ∷ Unsigned 0 ∷ Unsigned 0x80001 ∷ Unsigned 0xFFFFFFFF ∷ Unsigned 1 ∷ [])
 unfolding number same all_digits value
 binary_numbers = refl
 
 -- .. no digit, a digit 2, another byte among the digits, 33 digits, whatever their value: no number.
 no_binary_numbers : map number
     (bytes "0b" ∷ bytes "0b2" ∷ bytes "0b12" ∷ bytes "0b1_0" ∷ bytes "0bA" ∷ (bytes "0b" ++ replicate 33 49) ∷ (bytes "0b" ++ replicate 33 48) ∷ [])
-    ≡ replicate 7 NoNumber
+    ≡ replicate 7 None
 unfolding number same all_digits value
 no_binary_numbers = refl
 
 -- B2: a small b only. B3: "unsigned", so no sign before it. No other prefix.
-binary_prefix : map (λ (s : String). number (bytes s)) ("0B1" ∷ "-0b1" ∷ "-0b0" ∷ "+0b1" ∷ "b1" ∷ "1b1" ∷ "ab1" ∷ "00b1" ∷ []) ≡ replicate 8 NoNumber
+binary_prefix : map (λ (s : String). number (bytes s)) ("0B1" ∷ "-0b1" ∷ "-0b0" ∷ "+0b1" ∷ "b1" ∷ "1b1" ∷ "ab1" ∷ "00b1" ∷ []) ≡ replicate 8 None
 unfolding number same all_digits value
 binary_prefix = refl
 
@@ -89,10 +90,10 @@ unfolding tokens_from
 binary_token = refl
 
 binary_name : map (λ (s : String). is_name (bytes s)) ("b1010" ∷ "0b1010" ∷ []) ≡ true ∷ false ∷ []
-unfolding is_name are_all
+unfolding is_name
 binary_name = refl
 
-hexadecimal_stays : number (bytes "0x0b1") ≡ Unsigned 0xB1
+hexadecimal_stays : number (bytes "0x0b1") ≡ Some (Unsigned 0xB1)
 unfolding number same all_digits value
 hexadecimal_stays = refl
 
@@ -101,26 +102,26 @@ hexadecimal_stays = refl
 -- A10, A13: a letter, then letters or digits; the names of ops, and what looks like a hexadecimal number.
 names : map (λ (s : String). is_name (bytes s)) ("L" ∷ "add" ∷ "A0" ∷ "x10" ∷ "9add" ∷ "a_b" ∷ "$t0" ∷ "L:" ∷ "" ∷ [])
     ≡ replicate 4 true ++ replicate 5 false
-unfolding is_name are_all
+unfolding is_name
 names = refl
 
 -- A9, A10: "50 at most", of a label that is used, of an op, and of a label that is defined.
 letters : map is_name (replicate 50 65 ∷ replicate 51 65 ∷ []) ++ map is_definition
     ((replicate 50 65 ++ bytes ":") ∷ (replicate 51 65 ++ bytes ":") ∷ [])
     ≡ true ∷ false ∷ true ∷ false ∷ []
-unfolding is_definition is_name are_all
+unfolding is_definition is_name
 letters = refl
 
 -- A definition is a name and its colon.
 definitions : map (λ (s : String). is_definition (bytes s)) ("L:" ∷ "add:" ∷ "L" ∷ ":" ∷ "9:" ∷ "$t0:" ∷ []) ≡ true ∷ true ∷ replicate 4 false
-unfolding is_definition is_name are_all
+unfolding is_definition is_name
 definitions = refl
 
 -- A11: `$` and one or more letters or digits, with no upper length.
 registers : map is_register
     (bytes "$t0" ∷ bytes "$0" ∷ bytes "$15" ∷ bytes "$T0" ∷ (bytes "$" ++ replicate 60 97) ∷ bytes "$" ∷ bytes "t0" ∷ bytes "$$" ∷ bytes "$t_0" ∷ [])
     ≡ replicate 5 true ++ replicate 4 false
-unfolding is_register are_all
+unfolding is_register
 registers = refl
 
 -- A15: "Names are case-sensitive". Of a name that stands twice the first place counts; one that isn't there has the place after the last.
@@ -142,5 +143,5 @@ shapes = bytes "" ∷ bytes ":" ∷ bytes "o$,i" ∷ bytes ".0" ∷ []
 dialect : map (λ (line : String). first_shape (bytes ".at") shapes (texts (tokens (bytes line))))
     ("" ∷ "# c" ∷ "L:" ∷ "set $a, 0x10" ∷ "set $a, L" ∷ ".at 16" ∷ "set $a" ∷ "set $a, $b" ∷ "set a, 1" ∷ ".at L" ∷ ".to 16" ∷ "L: .at 16" ∷ [])
     ≡ 0 ∷ 0 ∷ 1 ∷ 2 ∷ 2 ∷ 3 ∷ replicate 6 4
-unfolding shapes tokens_from same number is_name is_register is_definition fits matches first_shape are_all all_digits value
+unfolding shapes tokens_from same number is_name is_register is_definition fits matches first_shape all_digits value
 dialect = refl

@@ -1,54 +1,41 @@
 // The bytes of a line.
+// Stays (4, 6): bytes are tested without a branch, which lines of 500 bytes need to be fast (docs/BENCHMARKS.md).
 ghost use Rattle.std.specs.Prelude.{◌≡◌, ◌&&◌, leb};
 ghost use Rattle.source.specs.Bytes.{is_blank, is_letter, is_letter_or_digit, is_allowed, are_right_bytes, are_all};
-
-use crate::truth::{both, either};
 
 // The most bytes of a line.
 pub const MOST_BYTES: usize = 500;
 
-// Whether a byte is a blank: space, tab or CR.
+// Whether a byte is a blank: space, tab or CR. Joined by `|`, as below: with a branch for a byte, long lines took three times as long.
 pub fn is_blank(b: u8) -> bool
     ensures { result ≡ is_blank b }
 {
-    if b == b' ' {
-        return true;
-    }
-    if b == b'\t' {
-        return true;
-    }
-    b == b'\r'
-}
-
-// Whether a byte is one of those from `first` to `last`.
-fn is_between(b: u8, first: u8, last: u8) -> bool
-    ensures { result ≡ (leb first b && leb b last) }
-{
-    both(first <= b, b <= last)
+    (b == b' ') | (b == b'\t') | (b == b'\r')
 }
 
 // Whether a byte is a letter.
 pub fn is_letter(b: u8) -> bool
     ensures { result ≡ is_letter b }
 {
-    either(is_between(b, b'A', b'Z'), is_between(b, b'a', b'z'))
+    b.is_ascii_alphabetic()
 }
 
 // Whether a byte is a letter or a digit.
 pub fn is_letter_or_digit(b: u8) -> bool
     ensures { result ≡ is_letter_or_digit b }
 {
-    either(is_letter(b), is_between(b, b'0', b'9'))
+    b.is_ascii_alphanumeric()
 }
 
 // Whether a byte may stand in a line.
 pub fn is_allowed(b: u8) -> bool
     ensures { result ≡ is_allowed b }
 {
-    either(is_blank(b), is_between(b, 33, 126))
+    is_blank(b) | (33 <= b) & (b <= 126)
 }
 
-// Whether a line has right bytes, and not too many.
+// Whether a line has right bytes, and not too many. Every byte is tested, also after one that is not allowed: so the loop has no branch for a byte.
+#[tactic(auto, unfolding(crate::specs::Bytes::are_right_bytes))]
 pub fn are_right_bytes(line: &[u8]) -> bool
     ensures { result ≡ are_right_bytes line.now }
 {
@@ -56,10 +43,8 @@ pub fn are_right_bytes(line: &[u8]) -> bool
         return false;
     }
     let mut right = true;
-    let mut i = 0;
-    while i < line.len() {
-        right = both(right, is_allowed(line[i]));
-        i += 1;
+    for b in line {
+        right = right & is_allowed(*b);
     }
     right
 }
@@ -68,12 +53,5 @@ pub fn are_right_bytes(line: &[u8]) -> bool
 pub fn are_letters_or_digits(s: &[u8]) -> bool
     ensures { result ≡ are_all is_letter_or_digit s.now }
 {
-    let mut i = 0;
-    while i < s.len() {
-        if !is_letter_or_digit(s[i]) {
-            return false;
-        }
-        i += 1;
-    }
-    true
+    s.iter().all(|b| is_letter_or_digit(*b))
 }

@@ -8,44 +8,31 @@ use crate::bytes::{are_letters_or_digits, is_letter};
 const MOST_LETTERS: usize = 50;
 
 // Whether a token has the form of a label or of an op.
+#[tactic(auto, unfolding(crate::specs::Names::is_name))]
 pub fn is_name(t: &[u8]) -> bool
     ensures { result ≡ is_name t.now }
 {
-    if t.len() == 0 {
-        return false;
-    }
-    if !is_letter(t[0]) {
-        return false;
-    }
-    if MOST_LETTERS < t.len() {
-        return false;
-    }
-    are_letters_or_digits(t)
+    !t.is_empty() && is_letter(t[0]) && t.len() <= MOST_LETTERS && are_letters_or_digits(t)
 }
 
 // Whether a token has the form of a register.
+#[tactic(auto, unfolding(crate::specs::Names::is_register))]
 pub fn is_register(t: &[u8]) -> bool
     ensures { result ≡ is_register t.now }
 {
-    if t.len() < 2 {
-        return false;
+    match t {
+        [b'$', rest @ ..] => !rest.is_empty() && are_letters_or_digits(rest),
+        _ => false,
     }
-    if t[0] != b'$' {
-        return false;
-    }
-    are_letters_or_digits(&t[1..])
 }
 
 // Whether a token defines a label: a name and a colon.
+#[tactic(auto, unfolding(crate::specs::Names::is_definition))]
 pub fn is_definition(t: &[u8]) -> bool
     ensures { result ≡ is_definition t.now }
 {
-    if t.len() == 0 {
-        return false;
+    match t {
+        [name @ .., b':'] => is_name(name),
+        _ => false,
     }
-    let last = t.len() - 1;
-    if t[last] != b':' {
-        return false;
-    }
-    is_name(&t[..last])
 }

@@ -1,101 +1,71 @@
 // The shape of a line.
-ghost use Rattle.std.specs.Prelude.{◌≡◌, ◌||◌, List, ℕ, ◌+◌, ◌*◌, ◌≤◌, length};
+// Stays (1, 3, 5, 7): a shape is a text of signs, as the definition `matches` has it, so a sign is a byte; signs and tokens go by one number, since `text` takes a token's.
+ghost use Rattle.std.specs.Prelude.{◌≡◌, ◌||◌, List, ℕ, ◌<◌, is_some, length};
 ghost use Rattle.text.specs.Bytes.{bytes};
-ghost use Rattle.text.specs.Numerals.{DigitValues};
 ghost use Rattle.source.specs.Tokens.{tokens, texts};
-ghost use Rattle.source.specs.Spans.{Split};
 ghost use Rattle.source.specs.Numbers.{number, is_number};
 ghost use Rattle.source.specs.Names.{is_name as is_name_of};
 ghost use Rattle.source.specs.Shapes.{fits, matches};
 
 use crate::names::{is_definition, is_name, is_register};
-use crate::numbers::{is_some, read_number};
+use crate::numbers::read_number;
+use crate::tokens::Tokens;
+use text::digits::DigitTable;
 use text::same::are_same;
 
-// Whether a line, split into n tokens, has a shape: a sign for each of them.
-pub fn has_shape(
-    line: &[u8],
-    places: &[usize],
-    n: usize,
-    directive: &[u8],
-    shape: &[u8],
-    values: &[u8; 256],
-) -> bool
-    requires { (Split line.now places.now n) × (2 * length shape.now + 2 ≤ length places.now) × DigitValues values.now }
-    ensures { result ≡ matches directive.now shape.now (texts (tokens line.now)) }
-{
-    if shape.len() != n {
-        return false;
-    }
-    let mut i = 0;
-    while i < shape.len() {
-        let start = places[2 * i];
-        let end = places[2 * i + 1];
-        if !fits_sign(directive, shape[i], &line[start..end], values) {
+impl<'a> Tokens<'a> {
+    // Whether the line has a shape: a sign for each of its tokens.
+    pub fn has_shape(&self, directive: &[u8], shape: &[u8], values: &DigitTable) -> bool
+        requires { length shape.now < length self.now.spans.now }
+        ensures { result ≡ matches directive.now shape.now (texts (tokens self.now.line.now)) }
+    {
+        if shape.len() != self.count {
             return false;
         }
-        i += 1;
+        for k in 0..shape.len() {
+            if !fits_sign(directive, shape[k], self.text(k), values) {
+                return false;
+            }
+        }
+        true
     }
-    true
-}
 
-// Whether a line, split into n tokens, is a label's definition alone, whatever the directive is.
-pub fn is_lone_definition(line: &[u8], places: &[usize], n: usize) -> bool
-    requires { (Split line.now places.now n) × (4 ≤ length places.now) }
-    ensures { (directive : List ℕ) → result ≡ matches directive (bytes ":") (texts (tokens line.now)) }
-{
-    if n != 1 {
-        return false;
+    // Whether the line is a label's definition alone, whatever the directive is.
+    pub fn is_lone_definition(&self) -> bool
+        requires { 1 < length self.now.spans.now }
+        ensures { (directive : List ℕ) → result ≡ matches directive (bytes ":") (texts (tokens self.now.line.now)) }
+    {
+        self.count == 1 && is_definition(self.text(0))
     }
-    let start = places[0];
-    let end = places[1];
-    is_definition(&line[start..end])
 }
 
 // Whether a token fits a sign.
-fn fits_sign(directive: &[u8], sign: u8, t: &[u8], values: &[u8; 256]) -> bool
-    requires { DigitValues values.now }
+#[tactic(auto, unfolding(crate::specs::Shapes::fits))]
+fn fits_sign(directive: &[u8], sign: u8, t: &[u8], values: &DigitTable) -> bool
     ensures { result ≡ fits directive.now sign t.now }
 {
-    if sign == b':' {
-        return is_definition(t);
+    match sign {
+        b':' => is_definition(t),
+        b'o' => is_name(t),
+        b'$' => is_register(t),
+        b',' => are_same(t, b","),
+        b'0' => is_number(t, values),
+        b'i' => is_immediate(t, values),
+        b'.' => are_same(t, directive),
+        _ => false,
     }
-    if sign == b'o' {
-        return is_name(t);
-    }
-    if sign == b'$' {
-        return is_register(t);
-    }
-    if sign == b',' {
-        return are_same(t, b",");
-    }
-    if sign == b'0' {
-        return is_number(t, values);
-    }
-    if sign == b'i' {
-        return is_immediate(t, values);
-    }
-    if sign == b'.' {
-        return are_same(t, directive);
-    }
-    false
 }
 
 // Whether a token is a number.
-pub fn is_number(t: &[u8], values: &[u8; 256]) -> bool
-    requires { DigitValues values.now }
+pub fn is_number(t: &[u8], values: &DigitTable) -> bool
     ensures { result ≡ is_number (number t.now) }
 {
-    is_some(read_number(t, values))
+    read_number(t, values).is_some()
 }
 
 // Whether a token is an immediate: a number or a label.
-fn is_immediate(t: &[u8], values: &[u8; 256]) -> bool
-    requires { DigitValues values.now }
+fn is_immediate(t: &[u8], values: &DigitTable) -> bool
     ensures { result ≡ (is_number (number t.now) || is_name_of t.now) }
 {
-    if is_number(t, values) {
-        return true;
-    }
-    is_name(t)
+    is_number(t, values) || is_name(t)
 }

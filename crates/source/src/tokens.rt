@@ -1,67 +1,90 @@
 // The tokens of a line, by their places.
-ghost use Rattle.std.specs.Prelude.{◌≡◌, ◌+◌, ◌≤◌, ◌<◌, length, get_or, drop};
-ghost use Rattle.source.specs.Tokens.{closes, follows, is_joined};
+// Stays (1, 3, 4, 5, 6): tokens are places in the line, which is lent (no heap).
+ghost use Rattle.std.specs.Prelude.{◌≡◌, ◌+◌, ◌≤◌, ◌<◌, [], ◌∷◌, length, get_or};
+ghost use Rattle.source.specs.Tokens.{closes, follows, is_joined, tokens, texts};
 ghost use Rattle.source.specs.Spans.{Begins, StartsAt, EndsAt, TokenAt, Split};
 
 use crate::Span;
 use crate::bytes::is_blank;
 
-// Splits a line into its tokens: puts the start and the end of each into `places`, as many as it has room for, and returns their number.
-pub fn split(line: &[u8], places: &mut [usize]) -> usize
-    ensures { (Split line.now places.new result) × (length places.new ≡ length places.old) }
-{
-    let room = places.len() / 2;
-    let mut n = 0;
-    let mut p = 0;
-    while n < room {
-        let s = next_token(line, p);
-        let start = s.start;
-        let end = s.end;
-        if end <= start {
-            return n;
-        }
-        places[2 * n] = start;
-        places[2 * n + 1] = end;
-        p = end;
-        n += 1;
-    }
-    n
+// A line split into its first tokens, as many as there was room for their places.
+#[derive(Clone, Copy)]
+pub struct Tokens<'a> {
+    pub line: &'a [u8],
+    pub spans: &'a [Span],
+    pub count: usize,
+    pub ghost split: { Split line.now spans.now count },
 }
 
-// The first token from p on; where there is none, its start and its end are the same.
-pub fn next_token(line: &[u8], p: usize) -> Span
+// Splits a line into its tokens: puts the place of each into `spans`, as many as it has room for.
+pub fn split<'a>(line: &'a [u8], spans: &'a mut [Span]) -> Tokens<'a>
+    ensures line { result.line.now ≡ line.now }
+    ensures room { length result.spans.now ≡ length spans.old }
+{
+    let mut p = 0;
+    for k in 0..spans.len() {
+        let Some(s) = next_token(line, p) else {
+            return Tokens {
+                line,
+                spans,
+                count: k,
+            };
+        };
+        spans[k] = s;
+        p = s.end;
+    }
+    let count = spans.len();
+    Tokens { line, spans, count }
+}
+
+impl<'a> Tokens<'a> {
+    // A line that is not split.
+    pub fn none(line: &'a [u8]) -> Tokens<'a>
+        ensures { result.line.now ≡ line.now }
+    {
+        Tokens {
+            line,
+            spans: &[],
+            count: 0,
+        }
+    }
+
+    // The bytes of token k.
+    pub fn text(&self, k: usize) -> &'a [u8]
+        requires { k < self.now.count }
+        ensures { result.now ≡ get_or (texts (tokens self.now.line.now)) k [] }
+    {
+        let s = self.spans[k];
+        &self.line[s.start..s.end]
+    }
+}
+
+// The first token from p on, if there is one.
+pub fn next_token(line: &[u8], p: usize) -> Option<Span>
     requires { p ≤ length line.now }
     ensures { TokenAt line.now p result }
 {
-    let start = token_start(line, p);
-    if start == line.len() {
-        return Span {
-            start: start,
-            end: start,
-        };
-    }
-    Span {
-        start: start,
+    let start = token_start(line, p)?;
+    Some(Span {
+        start,
         end: token_end(line, start),
-    }
+    })
 }
 
-// Where the first token from p on begins, or the line's end.
-fn token_start(line: &[u8], p: usize) -> usize
+// Where the first token from p on begins, if there is one.
+fn token_start(line: &[u8], p: usize) -> Option<usize>
     requires { p ≤ length line.now }
     ensures { StartsAt line.now p result }
 {
-    let mut i = p;
-    while i < line.len() {
-        if !is_blank(line[i]) {
-            if line[i] == b'#' {
-                return line.len();
-            }
-            return i;
+    for i in p..line.len() {
+        if line[i] == b'#' {
+            return None;
         }
-        i += 1;
+        if !is_blank(line[i]) {
+            return Some(i);
+        }
     }
-    i
+    None
 }
 
 // Where the token that begins at a ends.
@@ -69,46 +92,31 @@ fn token_end(line: &[u8], a: usize) -> usize
     requires { (a < length line.now) × Begins (get_or line.now a 0) }
     ensures { EndsAt line.now a result }
 {
-    let mut i = a;
-    while is_joined(line, i) {
-        i += 1;
+    for i in a..line.len() - 1 {
+        if !is_joined(line[i], line[i + 1]) {
+            return i + 1;
+        }
     }
-    i + 1
+    line.len()
 }
 
-// Whether the byte at i and the one after it are of one token.
-fn is_joined(line: &[u8], i: usize) -> bool
-    requires { i < length line.now }
-    ensures { result ≡ is_joined (get_or line.now i 0) (drop (i + 1) line.now) }
+// Whether two bytes, one after the other, are of one token.
+fn is_joined(b: u8, next: u8) -> bool
+    ensures { result ≡ is_joined b (next ∷ []) }
 {
-    if i + 1 == line.len() {
-        return false;
-    }
-    if is_closing(line[i]) {
-        return false;
-    }
-    can_follow(line[i + 1])
+    !is_closing(b) && can_follow(next)
 }
 
 // Whether a byte is the last of its token.
 fn is_closing(b: u8) -> bool
     ensures { result ≡ closes b }
 {
-    if b == b',' {
-        return true;
-    }
-    b == b':'
+    matches!(b, b',' | b':')
 }
 
 // Whether a byte can follow another in a token.
 fn can_follow(b: u8) -> bool
     ensures { result ≡ follows b }
 {
-    if is_blank(b) {
-        return false;
-    }
-    if b == b',' {
-        return false;
-    }
-    b != b'#'
+    !(is_blank(b) || matches!(b, b',' | b'#'))
 }

@@ -1,15 +1,17 @@
 -- The questions of a line, asked and answered. Assumes nothing.
+use Rattle.std.specs.Prelude.{Option, None, Some, is_some}
 use Prim.Native.Nat.{ℕ, ◌≤◌, ◌<◌}
 use mathlib.Core.Path.{◌≡◌, refl, sym, ◌∙◌, ap}
 use mathlib.Core.Bool.{Bool, true, false, cond, not, ◌&&◌, ◌||◌, or-true, and-true, false≢true}
 use mathlib.Core.List.{List, [], ◌∷◌}
 use lib.Dec.{leb, ltb}
 use lib.ListN.{take}
-use borrow.Author.Tests.{le-leb, lt-leb, ltb-true, ltb-false}
+use borrow.Author.Tests.{le-leb, lt-leb}
 use Rattle.text.specs.Questions.{accepted, first_no}
 use Rattle.text.specs.Lines.{lines}
 use Rattle.source.specs.Bytes.{are_right_bytes}
 use Rattle.source.specs.Lookup.{is_among}
+use Rattle.symbols.specs.Table.{names_of}
 use Rattle.symbols.specs.Sound.{Found}
 use Rattle.symbols.proofs.NameLaws.{first-names}
 use Rattle.source.specs.Shapes.{parsed}
@@ -54,22 +56,25 @@ module _ (f : Form) (n m : ℕ) where
 
 -- ---- question 6
 
-not_less : (m r : ℕ) → leb m r ≡ not (ltb r m)
-not_less m r = go (ltb r m) refl
-  where
-    go : (b : Bool) → ltb r m ≡ b → leb m r ≡ not b
-    go true e = lt-leb m r (ltb-true r m e)
-    go false e = le-leb m r (ltb-false r m e)
+other_side : (some none : Bool) → some ≡ not none → none ≡ not some
+other_side true true e = absurd (false≢true (sym e))
+other_side true false e = refl
+other_side false true e = refl
+other_side false false e = absurd (false≢true e)
 
 -- A label is new where it is not found among those of earlier lines.
-pub fresh-is : (line : List ℕ) {source table values : List ℕ} {count m r : ℕ} {x : List ℕ} → LabelTable source (lines source) table values count → m ≤ count → Found source table m x r → x ≡ label_of line
-    → leb m r ≡ not (is_among (take m (labels (lines source))) (label_of line))
-fresh-is line {source} {table} {values} {count} {m} {r} {x} t h found e =
-    not_less m r
+pub fresh-is : (line : List ℕ) {source table values : List ℕ} {count m : ℕ} {x : List ℕ} → LabelTable source (lines source) table values count → m ≤ count → (r : Option ℕ) → Found source table m x r
+    → (none : Bool) → is_some r ≡ not none → x ≡ label_of line → none ≡ not (is_among (take m (labels (lines source))) (label_of line))
+fresh-is line {source} {table} {values} {count} {m} {x} t h r found none is e =
+    other_side (is_some r) none is
     ∙ ap not
-    (sym found.among
+    (found_among r found
     ∙ ap (λ (ns : List (List ℕ)). is_among ns x) (sym (first-names source table count m h) ∙ ap (take m) t.names)
     ∙ ap (is_among (take m (labels (lines source)))) e)
+  where
+    found_among : (r : Option ℕ) → Found source table m x r → is_some r ≡ is_among (names_of source table m) x
+    found_among None f = sym f
+    found_among (Some k) f = sym f.among
 
 -- ---- all
 

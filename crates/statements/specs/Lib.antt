@@ -2,3 +2,4 @@
 pub mod Questions
 pub mod Encoding
 pub mod Reading
+pub mod Errors

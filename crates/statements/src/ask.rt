@@ -1,83 +1,74 @@
 // The questions of a line.
+// Stays (1, 2, 5): the questions are asked in document 01's order, with what is known of the lines before.
 ghost use Rattle.std.specs.Prelude.{◌≡◌, not, ◌&&◌, ◌||◌, List, [], ◌∷◌, ℕ, ◌≤◌, leb, ltb, take};
 ghost use Rattle.text.specs.Questions.{accepted, first_no};
 ghost use Rattle.text.specs.Lines.{lines};
 ghost use Rattle.source.specs.Bytes.{are_right_bytes};
 ghost use Rattle.source.specs.Lookup.{is_among};
-ghost use Rattle.lines.specs.Line.{form_of, is_right, has_label, has_code, label_of};
-ghost use Rattle.lines.specs.Parts.{Formed};
+ghost use Rattle.lines.specs.Line.{is_right, has_label, has_code, label_of};
 ghost use Rattle.labels.specs.Text.{labels as labels_of};
 ghost use Rattle.statements.specs.Questions.{asked_if, last_address, line_questions};
+ghost use Rattle.statements.specs.Errors.{question_of};
 ghost use Rattle.labels.specs.Limits.{most_labels};
-ghost use Rattle.labels.specs.Tables.{LabelTable};
 ghost use Rattle.statements.specs.Reading.{StatementRead, After};
 
-use crate::Statement;
-use labels::MOST_LABELS;
-use lines::Form;
+use crate::{LineError, Statement};
+use labels::{Labels, MOST_LABELS};
 use lines::forms::{has_code, has_label, is_right};
+use lines::{Form, Line};
 use source::bytes::are_right_bytes;
-use symbols::find;
 
 const LAST_ADDRESS: usize = 4095;
 
-// The number of the first question that a line gets a no to, 0 where it gets none: those on its bytes and its form, and others, whose answers are given.
+// The first question that a line gets a no to, if there is one: those on its bytes and its form, and others, whose answers are given.
+#[inline(always)]
 fn first_no(
-    line: &[u8],
-    f: Form,
+    line: &Line,
     known: bool,
     inside: bool,
     fresh: bool,
     defined: bool,
     placed: bool,
-) -> u32
-    requires { f ≡ form_of line.now }
-    ensures { result ≡ (first_no ((2, are_right_bytes line.now) ∷ (3, is_right f) ∷ (4, known) ∷ (5, inside) ∷ (6, fresh) ∷ (7, defined) ∷ (8, placed) ∷ []) 0 (accepted 0)).number }
+) -> Result<(), LineError>
+    ensures { question_of result ≡ (first_no ((2, are_right_bytes line.now.tokens.line.now) ∷ (3, is_right line.now.form) ∷ (4, known) ∷ (5, inside) ∷ (6, fresh) ∷ (7, defined) ∷ (8, placed) ∷ []) 0 (accepted 0)).number }
 {
-    if !is_right(f) {
-        if are_right_bytes(line) {
-            return 3;
+    if !is_right(line.form) {
+        if are_right_bytes(line.tokens.line) {
+            return Err(LineError::WrongForm);
         }
-        return 2;
+        return Err(LineError::BadBytes);
     }
     if !known {
-        return 4;
+        return Err(LineError::UnknownName);
     }
     if !inside {
-        return 5;
+        return Err(LineError::OutOfRange);
     }
     if !fresh {
-        return 6;
+        return Err(LineError::DefinedBefore);
     }
     if !defined {
-        return 7;
+        return Err(LineError::Undefined);
     }
     if !placed {
-        return 8;
+        return Err(LineError::NoPlace);
     }
-    0
+    Ok(())
 }
 
 // "Label not defined on an earlier line? 6", where m labels are defined on earlier lines.
-fn is_fresh(
-    source: &[u8],
-    line: &[u8],
-    f: Form,
-    places: &[usize],
-    table: &[u32],
-    values: &[u32],
-    count: usize,
-    m: usize,
-) -> bool
-    requires { (Formed line.now places.now f) × (LabelTable source.now (lines source.now) table.now values.now count) × (m ≤ count) }
-    ensures { result ≡ asked_if (has_label f) (not (is_among (take m (labels_of (lines source.now))) (label_of line.now))) }
+fn is_fresh(line: &Line, labels: &Labels, m: usize) -> bool
+    requires { m ≤ labels.now.names.count }
+    ensures { result ≡ asked_if (has_label line.now.form) (not (is_among (take m (labels_of (lines labels.now.names.source.now))) (label_of line.now.tokens.line.now))) }
 {
-    if !has_label(f) {
+    if !has_label(line.form) {
         return true;
     }
-    let start = places[0];
-    let end = places[1] - 1;
-    m <= find(source, table, count, m, &line[start..end])
+    let s = line.tokens.spans[0];
+    labels
+        .names
+        .find(m, &line.tokens.line[s.start..s.end - 1])
+        .is_none()
 }
 
 // "Instruction or label address at most 4095, label among the first 1,024? 8", after n instructions and m labels.
@@ -85,34 +76,19 @@ fn is_placed(f: Form, n: usize, m: usize) -> bool
     ensures { result ≡ (asked_if (has_code f || has_label f) (leb n last_address) && asked_if (has_label f) (ltb m most_labels)) }
 {
     if has_label(f) {
-        if LAST_ADDRESS < n {
-            return false;
-        }
-        return m < MOST_LABELS;
+        return n <= LAST_ADDRESS && m < MOST_LABELS;
     }
-    if has_code(f) {
-        return n <= LAST_ADDRESS;
-    }
-    true
+    !has_code(f) || n <= LAST_ADDRESS
 }
 
-// The number of the first question that a line gets a no to, 0 where it gets none; n instructions and m labels stand before it.
-pub fn ask(
-    source: &[u8],
-    line: &[u8],
-    f: Form,
-    s: Statement,
-    places: &[usize],
-    table: &[u32],
-    values: &[u32],
-    count: usize,
-    n: usize,
-    m: usize,
-) -> u32
-    requires { (Formed line.now places.now f) × (LabelTable source.now (lines source.now) table.now values.now count) × (StatementRead (lines source.now) line.now f s) × (m ≤ count) }
-    ensures { (before : List (List ℕ)) → After (lines source.now) before n m → result ≡ (first_no (line_questions (lines source.now) before line.now) 0 (accepted 0)).number }
+// Asks a line its questions; n instructions and m labels stand before it.
+#[inline(always)]
+pub fn ask(line: &Line, s: Statement, labels: &Labels, n: usize, m: usize) -> Result<(), LineError>
+    requires said { StatementRead (lines labels.now.names.source.now) line.now.tokens.line.now line.now.form s }
+    requires few { m ≤ labels.now.names.count }
+    ensures { (before : List (List ℕ)) → After (lines labels.now.names.source.now) before n m → question_of result ≡ (first_no (line_questions (lines labels.now.names.source.now) before line.now.tokens.line.now) 0 (accepted 0)).number }
 {
-    let fresh = is_fresh(source, line, f, places, table, values, count, m);
-    let placed = is_placed(f, n, m);
-    first_no(line, f, s.known, s.inside, fresh, s.defined, placed)
+    let fresh = is_fresh(line, labels, m);
+    let placed = is_placed(line.form, n, m);
+    first_no(line, s.known, s.inside, fresh, s.defined, placed)
 }

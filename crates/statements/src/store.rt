@@ -1,4 +1,5 @@
 // What a good line stores.
+// Stays (2, 4): an instruction goes to the image, data to its address in the data memory: two memories of other widths.
 ghost use Rattle.std.specs.Prelude.{◌≡◌, true, cond, ◌<◌, length, set};
 ghost use Rattle.lines.specs.Line.{has_code, has_word};
 

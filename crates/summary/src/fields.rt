@@ -1,4 +1,5 @@
 // Fields of a line: a space, and a number in decimal.
+// Stays (2, 4): a number in the middle of a line and one that ends it; the text goes to a place of a lent buffer (no heap).
 ghost use Rattle.std.specs.Prelude.{◌≡◌, [], ◌∷◌, ◌++◌, ◌+◌, ◌≤◌, length};
 ghost use Rattle.text.specs.Lines.{LF as lf};
 ghost use Rattle.text.specs.Numerals.{digit_count, decimal};

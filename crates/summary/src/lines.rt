@@ -1,4 +1,5 @@
 // The lines E and N.
+// Stays (1, 2, 4, 5): the status and the refused question are printed as the documents' numbers; the text goes to a place of a lent buffer (no heap).
 ghost use Rattle.std.specs.Prelude.{◌+◌, ◌≤◌, length};
 ghost use Rattle.text.specs.Place.{Puts};
 ghost use Rattle.summary.specs.ClosingLines.{line_e, line_n};

@@ -1,7 +1,7 @@
 -- One more entry in a table. Assumes nothing.
 use Prim.Native.Nat.{ℕ, zero, suc, ◌+◌, ◌≤◌, ◌<◌}
 use mathlib.Core.Path.{◌≡◌, refl, sym, ◌∙◌, ap, subst}
-use mathlib.Core.Logic.{◌⊎◌, inl, inr, ⊎_elim}
+use mathlib.Core.Logic.{◌⊎◌, inl, inr, ⊎_elim, ∥∥₁_map}
 use mathlib.Core.Bool.{Bool, true, false}
 use mathlib.Core.List.{List, [], ◌∷◌, ◌++◌}
 use native.Mathlib.Numerals.{add-one}
@@ -255,10 +255,12 @@ module _ {source table after : List ℕ} {count start end key bucket : ℕ} (a :
   -- So is the name of an entry before, for any entry after it that has it.
   name_on : (j k : ℕ) → j < count → j ≤ k → name_at source table j ≡ name_at source after k → Linked source after k
   name_on j k l le e =
+      ∥∥₁_map (a.sound.linked j l)
+      (λ on.
       subst
       (λ (u : List ℕ). Reached source after (k + 1) u (head_of after (bucket_of (key_of u))))
       e
-      (still_on (bucket_of (key_of (name_at source table j))) j (k + 1) (name_at source table j) (omega arith) l (omega arith) (a.sound.linked j l))
+      (still_on (bucket_of (key_of (name_at source table j))) j (k + 1) (name_at source table j) (omega arith) l (omega arith) on))
 
   -- .. and the name of each entry on its chain.
   linked_added : (k : ℕ) → k < count + 1 → Linked source after k
@@ -277,7 +279,7 @@ module _ {source table after : List ℕ} {count start end key bucket : ℕ} (a :
       top : head_of after bucket ≡ count + 1 → Linked source after count
       top e =
           let own : bucket_of (key_of (name_at source after count)) ≡ bucket = ap (λ (u : List ℕ). bucket_of (key_of u)) name_new ∙ ap bucket_of (sym a.is_key) ∙ sym a.is_bucket in
-          record { entry = count; first = omega arith; name = refl; on_chain = here (ap (head_of after) own ∙ e) }
+          ∣ record { entry = count; first = omega arith; name = refl; on_chain = here (ap (head_of after) own ∙ e) } ∣₁
 
       last : k ≡ count → Linked source after k
       last q = rw q (⊎_elim top seen a.known)

@@ -1,4 +1,5 @@
 -- Names of which none stands twice. Assumes nothing.
+use Rattle.std.specs.Prelude.{None}
 use Prim.Native.Nat.{ℕ, ◌<◌}
 use mathlib.Core.Path.{◌≡◌, refl, sym, ◌∙◌, ap}
 use mathlib.Core.Bool.{Bool, true, false}
@@ -11,7 +12,7 @@ use lib.Seq.{get_or_at}
 use borrow.Author.Tests.{ltb-true, ltb-false}
 use Rattle.source.specs.Lookup.{is_among, place_of}
 use Rattle.symbols.specs.Table.{names_of}
-use Rattle.symbols.specs.Sound.{Found}
+use Rattle.symbols.specs.Sound.{FoundAt, Found}
 use Rattle.symbols.proofs.LookupLaws.{place_kept, place-new, place_none}
 use Rattle.symbols.proofs.NameLaws.{length-names}
 
@@ -44,19 +45,14 @@ module _ (ns : List (List ℕ)) (t : List ℕ) (d : Distinct ns) where
   pub distinct-place : (r : ℕ) → r < length ns → get_or ns r [] ≡ t → place_of ns t ≡ r
   distinct-place r h e = ap (place_of ns) (sym e) ∙ d r h
 
--- So the answer of looking a name up is its place.
-pub found_place : {source table : List ℕ} {below : ℕ} {t : List ℕ} {r : ℕ} → Distinct (names_of source table below) → Found source table below t r
+-- So where a name is found is its place, ..
+pub found_place : {source table : List ℕ} {below : ℕ} {t : List ℕ} {r : ℕ} → Distinct (names_of source table below) → FoundAt source table below t r
     → r ≡ place_of (names_of source table below) t
-found_place {source} {table} {below} {t} {r} d f = go (ltb r below) refl
-  where
-    go : (q : Bool) → ltb r below ≡ q → r ≡ place_of (names_of source table below) t
-    go true e =
-        let size = length-names source table below in
-        let known = ltb-true r below e in
-        sym (distinct-place (names_of source table below) t d r (omega arith) (f.name known))
-    go false e =
-        let size = length-names source table below in
-        let past = ltb-false r below e in
-        let within = f.within in
-        let none = place_none (names_of source table below) t (f.among ∙ e) in
-        omega arith
+found_place {source} {table} {below} {t} {r} d f =
+    let size = length-names source table below in
+    let within = f.within in
+    sym (distinct-place (names_of source table below) t d r (omega arith) f.name)
+
+-- .. and where none has it, its place is after the last.
+pub no_place : (source table : List ℕ) (below : ℕ) (t : List ℕ) → Found source table below t None → below ≡ place_of (names_of source table below) t
+no_place source table below t f = sym (place_none (names_of source table below) t f ∙ length-names source table below)

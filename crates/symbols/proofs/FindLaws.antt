@@ -1,7 +1,8 @@
 -- A name looked for along its chain. Assumes nothing.
+use Rattle.std.specs.Prelude.{None}
 use Prim.Native.Nat.{ℕ, ◌+◌, ◌≤◌, ◌<◌}
 use mathlib.Core.Path.{◌≡◌, sym, ◌∙◌, ap, subst}
-use mathlib.Core.Logic.{◌⊎◌, inl, inr, ⊎_elim}
+use mathlib.Core.Logic.{◌⊎◌, inl, inr, ⊎_elim, ∥∥₁_map, ∥∥₁_elim}
 use mathlib.Core.Bool.{Bool, true, false, ◌&&◌, and-false, false≢true}
 use mathlib.Core.List.{List, []}
 use native.Mathlib.Omega.{arith}
@@ -14,7 +15,7 @@ use Rattle.source.specs.Lookup.{is_among}
 use Rattle.symbols.specs.Keys.{key_of, buckets, bucket_of}
 use Rattle.symbols.specs.Table.{head_of, next_of, key_at, part, start_of, end_of, name_at, names_of, OnChain}
 use Rattle.symbols.specs.Table.OnChain.{here, there}
-use Rattle.symbols.specs.Sound.{Entry, Reached, Sound, Found}
+use Rattle.symbols.specs.Sound.{Entry, Reached, Sound, FoundAt, Found}
 use Rattle.text.proofs.SameLaws.{same_equal}
 use Rattle.symbols.proofs.LookupLaws.{same_self, other_same, is_among_lem, none-among}
 use Rattle.symbols.proofs.NameLaws.{length-names, names_at}
@@ -67,15 +68,15 @@ module _ (source table : List ℕ) (below k : ℕ) (t : List ℕ) where
         is_among_lem (names_of source table below) t k (omega arith) has_name
 
     -- .. and this is the answer.
-    pub found : Found source table below t k
-    found = let known = ltb-true k below is-first in record { within = omega arith; among = name-among ∙ sym is-first; name = λ h. has_name }
+    pub found : FoundAt source table below t k
+    found = record { within = ltb-true k below is-first; among = name-among; name = has_name }
 
 -- ---- the search
 
 -- What is left of it: a chain on which the name is, where one of the first entries has it.
 pub record Left (source table : List ℕ) (count below : ℕ) (t : List ℕ) (link : ℕ) : Type 0 where
   pub within : link ≤ count
-  pub has : (k : ℕ) → k < below → name_at source table k ≡ t → Reached source table below t link
+  pub has : (k : ℕ) → k < below → name_at source table k ≡ t → ∥ Reached source table below t link ∥₁
 
 module _ {source table : List ℕ} {count : ℕ} (s : Sound source table count) (below : ℕ) (t : List ℕ) where
   -- The whole chain is left.
@@ -84,14 +85,15 @@ module _ {source table : List ℕ} {count : ℕ} (s : Sound source table count) 
       record {
         within = s.heads bucket b;
         has = λ k h name.
-            let on = s.linked k (omega arith) in
+            ∥∥₁_map (s.linked k (omega arith))
+            (λ on.
             let early = on.first in
             record {
               entry = on.entry;
               first = omega arith;
               name = on.name ∙ name;
               on_chain = subst (λ (x : ℕ). OnChain table (head_of table x) on.entry) (ap (λ (u : List ℕ). bucket_of (key_of u)) name ∙ sym e) on.on_chain;
-            };
+            });
       }
 
   module _ {link : ℕ} (l : Left source table count below t link) where
@@ -104,7 +106,8 @@ module _ {source table : List ℕ} {count : ℕ} (s : Sound source table count) 
           record {
             within = omega arith;
             has = λ i h name.
-                let on = l.has i h name in
+                ∥∥₁_map (l.has i h name)
+                (λ on.
                 let early = on.first in
                 ⊎_elim
                 (λ (q : on.entry ≡ k).
@@ -114,20 +117,14 @@ module _ {source table : List ℕ} {count : ℕ} (s : Sound source table count) 
                 ∙ asked
                 ∙ rw (lt-ltb k below (omega arith)) (ap (same t) (ap (name_at source table) (sym q) ∙ on.name) ∙ same_self t))))
                 (λ rest. record { entry = on.entry; first = early; name = on.name; on_chain = rest })
-                (chain_cases table k on.on_chain is);
+                (chain_cases table k on.on_chain is));
           }
 
     -- None has it.
-    pub none_left : link ≡ 0 → Found source table below t below
+    pub none_left : link ≡ 0 → Found source table below t None
     none_left e =
         let size = length-names source table below in
-        record {
-          within = omega arith;
-          among =
-              none-among (names_of source table below) t
-              (λ k h name.
-              let known : k < below = omega arith in
-              chain_ends table (l.has k known (sym (names_at source table below k known) ∙ name)).on_chain e)
-              ∙ sym (le-ltb below below (omega arith));
-          name = λ h. absurd (omega arith);
-        }
+        none-among (names_of source table below) t
+        (λ k h name.
+        let known : k < below = omega arith in
+        ∥∥₁_elim (l.has k known (sym (names_at source table below k known) ∙ name)) (λ x y. absurd x) (λ on. chain_ends table on.on_chain e))

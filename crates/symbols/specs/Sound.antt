@@ -1,5 +1,5 @@
 -- A table that is well made: what looking a name up leans on.
-use Rattle.std.specs.Prelude.{ℕ, ◌+◌, ◌≤◌, ◌<◌, ◌≡◌, List, [], ltb, length, get_or}
+use Rattle.std.specs.Prelude.{ℕ, ◌+◌, ◌≤◌, ◌<◌, ◌≡◌, true, false, Option, None, Some, List, [], length, get_or}
 use Rattle.source.specs.Lookup.{is_among}
 use Rattle.symbols.specs.Keys.{key_of, buckets, bucket_of, slots}
 use Rattle.symbols.specs.Table.{head_of, recent_of, entry_at, next_of, key_at, start_of, end_of, name_at, names_of, OnChain}
@@ -20,7 +20,7 @@ pub record Reached (source table : List ℕ) (below : ℕ) (t : List ℕ) (link 
 
 -- The name of entry k is on the chain of its key, by this entry or by one before it.
 abbrev pub Linked : (source table : List ℕ) → ℕ → Type 0
-Linked source table k = Reached source table (k + 1) (name_at source table k) (head_of table (bucket_of (key_of (name_at source table k))))
+Linked source table k = ∥ Reached source table (k + 1) (name_at source table k) (head_of table (bucket_of (key_of (name_at source table k)))) ∥₁
 
 -- There is room for the entries, the links lead to them, and the name of each is on its chain.
 pub record Sound (source table : List ℕ) (count : ℕ) : Type 0 where
@@ -36,8 +36,13 @@ pub record Empty (table : List ℕ) : Type 0 where
   pub heads : (bucket : ℕ) → bucket < buckets → head_of table bucket ≡ 0
   pub recents : (slot : ℕ) → slot < slots → recent_of table slot ≡ 0
 
--- A name was looked up among the first `below` entries, and r is the answer: the number of an entry that has it, or `below` where none has it.
-pub record Found (source table : List ℕ) (below : ℕ) (t : List ℕ) (r : ℕ) : Type 0 where
-  pub within : r ≤ below
-  pub among : is_among (names_of source table below) t ≡ ltb r below
-  pub name : r < below → get_or (names_of source table below) r [] ≡ t
+-- Entry r, one of the first `below`, has the name t.
+pub record FoundAt (source table : List ℕ) (below : ℕ) (t : List ℕ) (r : ℕ) : Type 0 where
+  pub within : r < below
+  pub among : is_among (names_of source table below) t ≡ true
+  pub name : get_or (names_of source table below) r [] ≡ t
+
+-- A name was looked up among the first `below` entries, and this is the answer: the number of an entry that has it, or that none has it.
+abbrev pub Found : (source table : List ℕ) (below : ℕ) (t : List ℕ) → Option ℕ → Type 0
+Found source table below t None = is_among (names_of source table below) t ≡ false
+Found source table below t (Some r) = FoundAt source table below t r

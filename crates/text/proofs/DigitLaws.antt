@@ -11,8 +11,8 @@ use lib.ListN.{length, length-append, get_or, drop, drop_of_length-le}
 use lib.Seq.{drop-cons}
 use lib.Dec.{ltb, eqb}
 use borrow.Author.Tests.{lt-ltb, le-ltb, ltb-true, eqb-true}
-use Rattle.text.specs.declared.Numeral.{Numeral}
-use Rattle.text.specs.declared.Numeral.TheVariants.{Value, NoNumeral}
+use Rattle.std.proofs.Common.{Option, Some, None}
+use Rattle.std.specs.List.{list_all}
 use Rattle.text.specs.Numerals.{digit, digit_value, digits, all_digits, value, numeral}
 use Rattle.text.proofs.Truth.{and_left, and_right, below}
 
@@ -37,8 +37,8 @@ value_after b acc [] = acc
 value_after b acc (c ∷ cs) = value_after b (acc * b + digit_value c) cs
 
 -- What reading them answers where those before them are digits that stand for `acc`.
-abbrev pub numeral_after : ℕ → ℕ → List ℕ → Numeral
-numeral_after b acc cs = cond (all_digits b cs) (Value (value_after b acc cs)) NoNumeral
+abbrev pub numeral_after : ℕ → ℕ → List ℕ → Option ℕ
+numeral_after b acc cs = cond (all_digits b cs) (Some (value_after b acc cs)) None
 
 after_is : (b acc : ℕ) (cs : List ℕ) → value_after b acc cs ≡ acc * b ^ length cs + value b cs
 unfolding value_after value
@@ -109,6 +109,12 @@ module _ (b : ℕ) (some : 0 < b) where
 
 -- ---- digits among bytes
 
+-- Bytes are digits where each of them is one.
+pub all_digits-is : (b : ℕ) (s : List ℕ) → list_all (λ c. ltb (digit_value c) b) s ≡ all_digits b s
+unfolding all_digits
+all_digits-is b [] = refl
+all_digits-is b (c ∷ s) = rw (all_digits-is b s)
+
 -- Digits side by side.
 pub all_append : (b : ℕ) (s t : List ℕ) → all_digits b (s ++ t) ≡ (all_digits b s && all_digits b t)
 unfolding all_digits
@@ -162,7 +168,7 @@ module _ (b i : ℕ) (s : List ℕ) (h : i < length s) (d : ℕ) (e : d ≡ digi
   pub numeral_more : (a : ℕ) → d < b → numeral_after b (a * b + d) (drop (i + 1) s) ≡ numeral_after b a (drop i s)
   numeral_more a k = rw (all_more k, value_more a)
 
-  pub numeral_stop : (a : ℕ) → b ≤ d → NoNumeral ≡ numeral_after b a (drop i s)
+  pub numeral_stop : (a : ℕ) → b ≤ d → None ≡ numeral_after b a (drop i s)
   numeral_stop a k = rw (← (all_stop k))
 
   -- The number so far stays below base ^ count, and so within the whole's bound.
@@ -180,36 +186,36 @@ module _ (b i : ℕ) (s : List ℕ) (h : length s ≤ i) where
   unfolding value_after
   value-end a = rw (drop_of_length-le s h)
 
-  pub numeral-end : (a : ℕ) → Value a ≡ numeral_after b a (drop i s)
+  pub numeral-end : (a : ℕ) → Some a ≡ numeral_after b a (drop i s)
   numeral-end a = rw (← all_end, ← (value-end a))
 
 -- ---- an answer that is a number where a test holds
 
 module _ (t : Bool) (n : ℕ) where
-  pub number_yes : (v : ℕ) → cond t (Value n) NoNumeral ≡ Value v → t ≡ true
+  pub number_yes : (v : ℕ) → cond t (Some n) None ≡ Some v → t ≡ true
   number_yes v = go t
     where
-      go : (t : Bool) → cond t (Value n) NoNumeral ≡ Value v → t ≡ true
+      go : (t : Bool) → cond t (Some n) None ≡ Some v → t ≡ true
       go true e = refl
       go false e = cc
 
-  pub number_no : cond t (Value n) NoNumeral ≡ NoNumeral → t ≡ false
+  pub number_no : cond t (Some n) None ≡ None → t ≡ false
   number_no = go t
     where
-      go : (t : Bool) → cond t (Value n) NoNumeral ≡ NoNumeral → t ≡ false
+      go : (t : Bool) → cond t (Some n) None ≡ None → t ≡ false
       go true e = cc
       go false e = refl
 
-  pub number-value : (v : ℕ) → cond t (Value n) NoNumeral ≡ Value v → v ≡ n
+  pub number-value : (v : ℕ) → cond t (Some n) None ≡ Some v → v ≡ n
   number-value v = go t
     where
-      go : (t : Bool) → cond t (Value n) NoNumeral ≡ Value v → v ≡ n
+      go : (t : Bool) → cond t (Some n) None ≡ Some v → v ≡ n
       go true e = cc
       go false e = cc
 
   -- The number, or 0 where there is none.
-  pub number_is : (v : ℕ) → cond t (Value n) NoNumeral ≡ Value v → v ≡ cond t n 0
+  pub number_is : (v : ℕ) → cond t (Some n) None ≡ Some v → v ≡ cond t n 0
   number_is v e = rw (number_yes v e) (number-value v e)
 
-  pub number-none : cond t (Value n) NoNumeral ≡ NoNumeral → 0 ≡ cond t n 0
+  pub number-none : cond t (Some n) None ≡ None → 0 ≡ cond t n 0
   number-none e = rw (number_no e)

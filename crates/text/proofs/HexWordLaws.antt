@@ -6,7 +6,7 @@ use native.Mathlib.Nat.{zero-add, suc-add, add-mul-mod_self_right, add-mul-div_r
 use native.Mathlib.Omega.{arith}
 use lib.ListN.{length, get_or, take, drop}
 use lib.Seq.{take_at, drop_at}
-use Rattle.text.specs.Numerals.{digit, digits, low_bytes, HexDigits, HexWords}
+use Rattle.text.specs.Numerals.{digit, digits, low_bytes}
 use Rattle.text.specs.Place.{put}
 use Rattle.text.proofs.PutLaws.{put-append}
 use Rattle.text.proofs.DigitLaws.{digit_lt, digits_split, digits_low, length_digits}
@@ -120,28 +120,16 @@ paired-bytes (suc k) x = let two : suc k * 2 ≡ suc (suc (k * 2)) = omega arith
 
 -- ---- the table
 
--- Its first entries are the pairs themselves.
-pub entry-pair : (t : List ℕ) (n : ℕ) → HexWords t → n < 256 → get_or t n 0 ≡ pair n
-entry-pair t n w h = rw (zero-add, pow-zero, mul-one) at (w 0 n (omega arith) h)
+-- The pair of a byte that is not moved.
+pub pair-unmoved : (n r : ℕ) → r ≡ pair n * 65536 ^ 0 → r ≡ pair n
+pair-unmoved n r e = rw (e, pow-zero, mul-one)
 
--- The sum of a word's four entries has all its digits.
-pub entries_sum : (t : List ℕ) (x : ℕ) → HexWords t → x < 2 ^ 32
-    → get_or t (x / 16777216) 0 + get_or t (256 + x / 65536 % 256) 0 + get_or t (512 + x / 256 % 256) 0 + get_or t (768 + x % 256) 0 ≡ paired 4 x
-entries_sum t x w h =
-    let a = entry-pair t (x / 16777216) w (omega arith) in
-    let b = w 1 (x / 65536 % 256) (omega arith) (omega arith) in
-    let c = w 2 (x / 256 % 256) (omega arith) (omega arith) in
-    let d = w 3 (x % 256) (omega arith) (omega arith) in
-    let first : x / 16777216 % 256 ≡ x / 16777216 = mod-eq_of_lt {m = 256} (omega arith) in
-    rw (first, div-one) (omega arith)
-
--- The pair of a byte from the sixteen digits, which fits 64 bits.
-module _ (one : List ℕ) (n : ℕ) (w : HexDigits one) (h : n < 256) where
-  pub pair_of_digits : get_or one (n / 16) 0 + get_or one (n % 16) 0 * 256 ≡ pair n
-  pair_of_digits = rw (w (n / 16) (omega arith), w (n % 16) (omega arith))
-
-  pub pair_fits : get_or one (n / 16) 0 + get_or one (n % 16) 0 * 256 < 65536
-  pair_fits = rw pair_of_digits (pair_lt n h)
+-- The sum of a word's four pairs, moved to their places, has all its digits.
+pub pairs_sum : (x a b c d : ℕ) → x < 2 ^ 32 → a ≡ pair (x / 16777216) * 65536 ^ 0 → b ≡ pair (x / 65536 % 256) * 65536 ^ 1
+    → c ≡ pair (x / 256 % 256) * 65536 ^ 2 → d ≡ pair (x % 256) * 65536 ^ 3 → a + b + c + d ≡ paired 4 x
+pairs_sum x a b c d h first second third fourth =
+    let top : x / 16777216 % 256 ≡ x / 16777216 = mod-eq_of_lt {m = 256} (omega arith) in
+    rw (top, div-one) (omega (arith, pair-unmoved _ a first, second, third, fourth))
 
 -- ---- filling it
 

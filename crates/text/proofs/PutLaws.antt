@@ -4,9 +4,8 @@ use mathlib.Core.Path.{◌≡◌, refl, sym, ◌∙◌, ap}
 use mathlib.Core.List.{List, [], ◌∷◌, ◌++◌, append_assoc, append-nil}
 use native.Mathlib.Nat.{add-zero, add-suc, suc-add, zero-add}
 use native.Mathlib.Omega.{arith}
-use native.Mathlib.Numerals.{add-one}
-use lib.ListN.{get_or, drop_of_length-le, length, take, drop, set}
-use lib.Seq.{drop-cons, sets-eq, length-sets, set_comm}
+use lib.ListN.{drop_of_length-le, length, take, drop, set}
+use lib.Seq.{drop-drop, sets-eq, length-sets, set_comm}
 use borrow.Rule.Slice.PartMut.{put_mid, Post-is}
 use Rattle.text.specs.Place.{put, Puts}
 
@@ -66,12 +65,9 @@ unfolding put
 put-part d ys at n e h =
     ap (λ (z : List ℕ). take at d ++ (ys ++ z)) (Post-is at (at + n) d (omega arith)) ∙ rw (← e, ← append_assoc) (sym (sets-eq ys d at (omega arith)))
 
--- A turn of a copy: the element i of xs is stored.
-module _ (d xs : List ℕ) (at i : ℕ) where
-  pub copy_turn : i < length xs → put (set d (at + i) (get_or xs i 0)) (at + (i + 1)) (drop (i + 1) xs) ≡ put d (at + i) (drop i xs)
-  unfolding put
-  copy_turn h = rw (add-one i, drop-cons xs i 0 h, add-suc)
-
-  pub copy_end : length xs ≤ i → d ≡ put d (at + i) (drop i xs)
-  unfolding put
-  copy_end h = rw (drop_of_length-le xs h)
+-- A part of a list replaced by as many numbers is these put at its place.
+pub put_part : (d xs ys : List ℕ) (at : ℕ) → at + length xs ≤ length d → ys ≡ xs → put_mid at (at + length xs - at) d ys ≡ put d at xs
+unfolding put
+put_part d xs ys at h e =
+    let size : at + length xs - at ≡ length xs = omega arith in
+    rw (e, size, sets-eq xs d at h, drop-drop, append_assoc)

@@ -9,7 +9,8 @@ use native.Mathlib.Omega.{arith}
 use lib.Dec.{eqb, ltb}
 use lib.ListN.{length, get_or, take, drop, drop_of_length-le}
 use lib.Seq.{drop-cons, length-take-le, get_or-take, take_all}
-use borrow.Author.Tests.{eq-eqb, ne_eqb, eqb-true, ltb-true, ltb-false}
+use borrow.Author.Tests.{eq-eqb, ne_eqb, eqb-true, eqb-false, ltb-true, ltb-false}
+use Rattle.std.specs.Cmp.Lexicographic.{pointwise}
 use Rattle.text.specs.Same.{same}
 use Rattle.text.proofs.Truth.{and_left, and_right, all_below, below}
 
@@ -23,6 +24,29 @@ same_equal (b ∷ s) (c ∷ t) e =
     let first = eqb-true b c (and_left (eqb b c) (same s t) e) in
     let rest = same_equal s t (and_right (eqb b c) (same s t) e) in
     cc
+
+-- They are compared number by number.
+pub same-is : (s t : List ℕ) → pointwise eqb s t ≡ same s t
+unfolding same
+same-is [] [] = refl
+same-is [] (c ∷ t) = refl
+same-is (b ∷ s) [] = refl
+same-is (b ∷ s) (c ∷ t) = rw (same-is s t)
+
+-- It is the same in which order.
+turned : (a b : ℕ) → eqb b a ≡ eqb a b
+turned a b = go (eqb a b) refl
+  where
+    go : (t : Bool) → eqb a b ≡ t → eqb b a ≡ t
+    go true e = eq-eqb b a (sym (eqb-true a b e))
+    go false e = ne_eqb b a (λ h. eqb-false a b e (sym h))
+
+pub same_turned : (s t : List ℕ) → pointwise eqb t s ≡ same s t
+unfolding same
+same_turned [] [] = refl
+same_turned [] (c ∷ t) = refl
+same_turned (b ∷ s) [] = refl
+same_turned (b ∷ s) (c ∷ t) = rw (turned b c, same_turned s t)
 
 -- A table of texts: a test computed over its n entries gives the rule at each.
 pub table_rule : (entry rule : ℕ → List ℕ) (n : ℕ) → all_below (λ k. same (entry k) (rule k)) n ≡ true → (k : ℕ) → k < n → entry k ≡ rule k

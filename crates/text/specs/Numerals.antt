@@ -1,9 +1,7 @@
 -- Numerals in a base from 2 to 16, over the number of their digits.
-use Rattle.std.specs.Prelude.{◌^◌, ℕ, zero, suc, ◌+◌, ◌-◌, ◌*◌, ◌/◌, ◌%◌, ◌<◌, ◌≡◌, Bool, true, cond, ◌&&◌, List, [], ◌∷◌, ◌++◌, ltb, leb, length, get_or}
+use Rattle.std.specs.Prelude.{◌^◌, ℕ, zero, suc, ◌+◌, ◌-◌, ◌*◌, ◌/◌, ◌%◌, ◌<◌, ◌≡◌, Bool, true, cond, ◌&&◌, Option, Some, None, List, [], ◌∷◌, ◌++◌, ltb, leb, length, get_or}
 use Prim.Native.Char.{Char, code}
 use Rattle.text.specs.Bytes.{bytes}
-use Rattle.text.specs.declared.Numeral.{Numeral}
-use Rattle.text.specs.declared.Numeral.TheVariants.{Value, NoNumeral}
 
 -- ---- one digit
 
@@ -41,8 +39,8 @@ value b [] = 0
 value b (c ∷ cs) = digit_value c * b ^ length cs + value b cs
 
 -- What reading bytes as digits of base b answers.
-abbrev pub numeral : ℕ → List ℕ → Numeral
-numeral b cs = cond (all_digits b cs) (Value (value b cs)) NoNumeral
+abbrev pub numeral : ℕ → List ℕ → Option ℕ
+numeral b cs = cond (all_digits b cs) (Some (value b cs)) None
 
 -- ---- no leading zeros
 
@@ -65,10 +63,6 @@ decimal v = digits 10 (digit_count 10 v) v
 -- Entry c is what the byte c is worth as a digit.
 abbrev pub DigitValues : List ℕ → Type 0
 DigitValues t = (c : ℕ) → c < 256 → get_or t c 0 ≡ digit_value c
-
--- Entry n is the hexadecimal digit n.
-abbrev pub HexDigits : List ℕ → Type 0
-HexDigits t = (n : ℕ) → n < 16 → get_or t n 0 ≡ digit n
 
 -- Entry n has the two hexadecimal digits of the byte n, the first of them in its low byte.
 abbrev pub HexPairs : List ℕ → Type 0

@@ -1,6 +1,6 @@
 -- Questions asked in an order: the first that gets a no refuses the call. Document 01 gives the form ("Questions asked"); which questions
 -- a call asks stands with the call.
-use Rattle.std.specs.Prelude.{ℕ, ◌+◌, Bool, cond, List, [], ◌∷◌, eqb}
+use Rattle.std.specs.Prelude.{ℕ, ◌+◌, Bool, cond, List, [], ◌∷◌, eqb, Result, Ok, Err}
 use Rattle.text.specs.declared.Outcome.{Outcome}
 
 -- A question: its number, and whether the answer is yes.
@@ -14,6 +14,15 @@ accepted n = record { number = 0; place = 0; count = n }
 
 abbrev pub refused : ℕ → ℕ → Outcome
 refused number place = record { number = number; place = place; count = 0 }
+
+-- What a call answers, where each of its errors is the refusal of a question: one that counts, and one that has no count.
+abbrev pub counted : {E : Type 0} → (E → Outcome) → Result ℕ E → Outcome
+counted refusal (Ok count) = accepted count
+counted refusal (Err error) = refusal error
+
+abbrev pub done : {E : Type 0} → (E → Outcome) → Result (Unit {0}) E → Outcome
+done refusal (Ok _) = accepted 0
+done refusal (Err error) = refusal error
 
 -- The first of the questions that gets a no refuses, with its number and this place; where none does, the outcome is `next`.
 abbrev pub first_no : List Question → ℕ → Outcome → Outcome

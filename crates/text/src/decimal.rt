@@ -1,4 +1,6 @@
 // Decimals, with a number of digits or without leading zeros.
+// Stays (2, 3, 4, 5): a word's digits go two at a time, which the log's lines need to be fast; the count is two matches, since one is over 40 lines; the text goes to
+// a place of a lent buffer (no heap), and its contract says which bytes.
 ghost use Rattle.std.specs.Prelude.{◌≡◌, ◌+◌, ◌/◌, ◌^◌, ◌≤◌, ◌<◌, length};
 ghost use Rattle.text.specs.Numerals.{digit_count, digits, decimal, low_bytes};
 ghost use Rattle.text.specs.Place.{put};
@@ -50,11 +52,10 @@ pub fn put_decimal(out: &mut [u8], at: usize, v: u64) -> usize
     ensures { (out.new ≡ put out.old at (decimal v)) × (result ≡ at + digit_count 10 v) }
 {
     let n = digit_count(v);
-    if v < 0x1_0000_0000 {
-        put_word_digits(out, at, n, v as u32);
-        return at + n;
+    match u32::try_from(v) {
+        Ok(word) => put_word_digits(out, at, n, word),
+        Err(_) => put_decimal_digits(out, at, n, v),
     }
-    put_decimal_digits(out, at, n, v);
     at + n
 }
 
@@ -89,11 +90,9 @@ pub fn put_decimal_digits(out: &mut [u8], at: usize, k: usize, v: u64)
     requires { at + k ≤ length out.old }
     ensures { out.new ≡ put out.old at (digits 10 k v) }
 {
-    let mut left = k;
     let mut rest = v;
-    while 0 < left {
-        left -= 1;
-        out[at + left] = digit((rest % 10) as u8);
+    for i in (0..k).rev() {
+        out[at + i] = digit((rest % 10) as u8);
         rest = rest / 10;
     }
 }
@@ -105,14 +104,9 @@ pub fn take_digits(v: u64, k: usize) -> Taken
 {
     let mut held = 0;
     let mut rest = v;
-    let mut i = 0;
-    while i < k {
+    for _ in 0..k {
         held = held * 256 + (48 + rest % 10);
         rest = rest / 10;
-        i += 1;
     }
-    Taken {
-        held: held,
-        rest: rest,
-    }
+    Taken { held, rest }
 }

@@ -1,4 +1,5 @@
 // Numerals and lines in slices of bytes, and what a call that asks questions answers. Nothing here knows of a computer.
+// Stays (1): what a call answers in numbers is what the C face returns (simp `simp_run` and the others): number, place and count.
 #![tactic(auto)]
 
 pub mod decimal;
@@ -8,13 +9,6 @@ pub mod lines;
 pub mod outcomes;
 pub mod place;
 pub mod same;
-
-// What reading a numeral answers: its number, or that it is none.
-#[derive(Clone, Copy)]
-pub enum Numeral {
-    Value(u64),
-    NoNumeral,
-}
 
 // Digits that a number holds, the first in its low byte, and what is left of the number that they were taken from.
 #[derive(Clone, Copy)]

@@ -1,4 +1,5 @@
 // The lines of a text, by the places where they begin and end.
+// Stays (1, 2, 3, 4, 5): a line's end is a place, the text's end where no LF stands; blocks are passed over without a branch a byte (a line of 262,144 bytes: docs/BENCHMARKS.md).
 ghost use Rattle.std.specs.Prelude.{◌≡◌, ◌+◌, ◌≤◌, ◌<◌, length, get_or, drop};
 ghost use Rattle.text.specs.Lines.{LF as line_feed, first_line, has_lf, ends_line};
 
@@ -49,14 +50,12 @@ fn first_lf(s: &[u8], from: usize, to: usize) -> usize
     requires { (from ≤ to) × (to ≤ length s.now) }
     ensures { (result + length (first_line (drop result s.now)) ≡ from + length (first_line (drop from s.now))) × (result ≤ to) × (result < to → get_or s.now result 0 ≡ line_feed) }
 {
-    let mut at = from;
-    while at < to {
+    for at in from..to {
         if s[at] == LF {
             return at;
         }
-        at += 1;
     }
-    at
+    to
 }
 
 // The place after the blocks from `from` on that have no LF: the line that begins there ends where the one that begins at `from` does.
@@ -79,10 +78,8 @@ fn has_lf(part: &[u8]) -> bool
     ensures { result ≡ has_lf part.now }
 {
     let mut found = false;
-    let mut i = 0;
-    while i < part.len() {
-        found = found | (part[i] == LF);
-        i += 1;
+    for b in part {
+        found = found | (*b == LF);
     }
     found
 }
@@ -91,8 +88,5 @@ fn has_lf(part: &[u8]) -> bool
 pub fn ends_line(s: &[u8], at: usize) -> bool
     ensures { result ≡ ends_line s.now at }
 {
-    if at < s.len() {
-        return s[at] == LF;
-    }
-    true
+    s.len() <= at || s[at] == LF
 }

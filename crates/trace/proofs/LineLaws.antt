@@ -4,10 +4,10 @@ use Prim.Native.Nat.{ℕ, ◌+◌, ◌-◌, ◌*◌, ◌/◌, ◌%◌, ◌^◌, 
 use mathlib.Core.Path.{◌≡◌, refl, sym, ◌∙◌, ap}
 use mathlib.Core.List.{List, [], ◌∷◌, ◌++◌, append_assoc}
 use native.Mathlib.Omega.{arith}
-use lib.ListN.{length, get_or, set, length-append}
+use lib.ListN.{length, set, length-append}
 use borrow.Author.Tests.{lt-ltb, le-ltb}
 use Rattle.text.specs.Bytes.{bytes}
-use Rattle.text.specs.Numerals.{digit, digits, low_bytes, HexWords}
+use Rattle.text.specs.Numerals.{digit, digits, low_bytes}
 use Rattle.text.specs.Lines.{LF}
 use Rattle.text.specs.Place.{put}
 use Rattle.text.proofs.DigitLaws.{digit_lt, length_digits, digits_split, digits_low}
@@ -48,15 +48,10 @@ module _ (pc op a b c : ℕ) (h : op < 256) (p : a ≡ pair (pc / 16 % 256) * 65
       rw (whole, low_front 7 84 _ (omega arith), low_front 6 32 _ (omega arith), low_pair 4 (pc / 16 % 256) _ (omega arith), low_front 3 (digit (pc % 16)) _ (omega arith), low_front 2 32 (pair op) (omega arith), pair-bytes op h)
       (ap (λ (l : List ℕ). 84 ∷ 32 ∷ (l ++ (digit (pc % 16) ∷ 32 ∷ digits 16 2 op))) (digits_low 16 (omega arith) 2 (pc / 16)))
 
-pub front_held : (t : List ℕ) (pc op : ℕ) → HexWords t → op < 256
-    → let a = get_or t (256 + pc / 16 % 256) 0 in let b = get_or t (512 + pc % 16 * 16) 0 in let c = get_or t (768 + op) 0 in
-    ((a + b < 2 ^ 64) × (a + b + c < 2 ^ 64) × (17592186036140 ≤ a + b + c))
+pub front_held : (pc op a b c : ℕ) → op < 256 → a ≡ pair (pc / 16 % 256) * 65536 ^ 1 → b ≡ pair (pc % 16 * 16) * 65536 ^ 2 → c ≡ pair op * 65536 ^ 3
+    → ((a + b < 2 ^ 64) × (a + b + c < 2 ^ 64) × (17592186036140 ≤ a + b + c))
     × (low_bytes 8 (a + b + c - 17592186036140) ≡ bytes "T" ++ field (digits 16 3 pc) ++ field (digits 16 2 op))
-front_held t pc op w h =
-    let a = w 1 (pc / 16 % 256) (omega arith) (omega arith) in
-    let b = w 2 (pc % 16 * 16) (omega arith) (omega arith) in
-    let c = w 3 op (omega arith) h in
-    (front_fits pc op _ _ _ h a b c, front_bytes pc op _ _ _ h a b c)
+front_held pc op a b c h first second third = (front_fits pc op _ _ _ h first second third, front_bytes pc op _ _ _ h first second third)
 
 -- The word, by its two high bytes and the 32 bits below them.
 code-digits : (w : ℕ) → digits 16 2 (w / 2 ^ 40 % 256) ++ digits 16 2 (w / 2 ^ 32 % 256) ++ digits 16 8 (w % 2 ^ 32) ≡ digits 16 12 w

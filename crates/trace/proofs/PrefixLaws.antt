@@ -2,20 +2,20 @@
 use Prim.Native.Nat.{ℕ, suc, ◌+◌, ◌-◌, ◌*◌, ◌/◌, ◌%◌, ◌^◌, ◌≤◌, ◌<◌}
 use mathlib.Core.Path.{◌≡◌, refl, sym, ◌∙◌, ap}
 use mathlib.Core.Bool.{Bool, true, false, cond}
-use mathlib.Core.List.{List, [], ◌∷◌, ◌++◌, append_assoc}
+use mathlib.Core.List.{List, ◌∷◌, ◌++◌, append_assoc}
 use native.Mathlib.Omega.{arith}
 use lib.Dec.{eqb, ltb}
-use lib.ListN.{length, take, get_or, set, replicate, length-append}
+use lib.ListN.{length, take, length-append}
 use lib.Seq.{take_at, take-append-le, take-append-add}
 use borrow.Author.Tests.{eqb-true, ltb-true, ltb-false}
-use Rattle.text.specs.Numerals.{digit, digits, digit_count, decimal, low_bytes, HexWords}
+use Rattle.text.specs.Numerals.{digit, digits, digit_count, decimal, low_bytes}
 use Rattle.text.specs.Place.{put}
 use Rattle.text.proofs.Truth.{below}
 use Rattle.text.proofs.PieceLaws.{more as joined, put-cut}
 use Rattle.text.proofs.DigitLaws.{digits_split, digits_low}
 use Rattle.text.proofs.DecimalLaws.{count_pos, count-one, count-is, count_hundreds, decimal-one, decimal_two, decimal_hundreds, halves-digits}
-use Rattle.text.proofs.HexWordLaws.{length_low, low_split, low_front, pair, pair-bytes, entry-pair}
-use Rattle.trace.specs.Prefixes.{cycle_prefix, last_two, GivesPrefix, IsPrefix}
+use Rattle.text.proofs.HexWordLaws.{length_low, low_split, low_front, pair, pair-bytes, pair-unmoved}
+use Rattle.trace.specs.Prefixes.{cycle_prefix, last_two, GivesPrefix}
 
 -- ---- the last two characters
 
@@ -30,8 +30,8 @@ module _ (n : ℕ) (h : n < 100) where
       let low : (n + n / 10 * 6) % 16 ≡ n % 10 = omega arith in
       rw (high, low)
 
-  pub entry-is : (t : List ℕ) → HexWords t → get_or t (n + n / 10 * 6) 0 ≡ digit (n / 10) + digit (n % 10) * 256
-  entry-is t w = entry-pair t (n + n / 10 * 6) w halved ∙ pair_is
+  pub pair_of_two : (r : ℕ) → r ≡ pair (n + n / 10 * 6) * 65536 ^ 0 → r ≡ digit (n / 10) + digit (n % 10) * 256
+  pair_of_two r e = pair-unmoved (n + n / 10 * 6) r e ∙ pair_is
 
   -- Not lowered they are the digits.
   pub last_digits : last_two n 0 ≡ digits 10 2 n
@@ -130,25 +130,6 @@ gives_hundred q n held more c some count few fits e l h =
       room = omega arith;
       front = λ letter k. rw (lettered letter held k, two, e) (ap (λ (l : List ℕ). letter ∷ 32 ∷ (digits 10 n q ++ l)) (ap (λ (n : ℕ). last_two n 0) low ∙ last_digits (c % 100) (omega arith)) ∙ ap (λ (l : List ℕ). letter ∷ 32 ∷ l) whole);
     }
-
--- ---- a prefix as the code stores it
-
--- Seven numbers stored are all that seven places hold.
-pub stored_is : (l : List ℕ) (a b d e f g h : ℕ) → length l ≡ 7
-    → set (set (set (set (set (set (set l 0 a) 1 b) 2 d) 3 e) 4 f) 5 g) 6 h ≡ a ∷ b ∷ d ∷ e ∷ f ∷ g ∷ h ∷ []
-stored_is [] a b d e f g h n = absurd (omega arith)
-stored_is (_ ∷ []) a b d e f g h n = absurd (omega arith)
-stored_is (_ ∷ _ ∷ []) a b d e f g h n = absurd (omega arith)
-stored_is (_ ∷ _ ∷ _ ∷ []) a b d e f g h n = absurd (omega arith)
-stored_is (_ ∷ _ ∷ _ ∷ _ ∷ []) a b d e f g h n = absurd (omega arith)
-stored_is (_ ∷ _ ∷ _ ∷ _ ∷ _ ∷ []) a b d e f g h n = absurd (omega arith)
-stored_is (_ ∷ _ ∷ _ ∷ _ ∷ _ ∷ _ ∷ []) a b d e f g h n = absurd (omega arith)
-stored_is (_ ∷ _ ∷ _ ∷ _ ∷ _ ∷ _ ∷ _ ∷ []) a b d e f g h n = refl
-stored_is (_ ∷ _ ∷ _ ∷ _ ∷ _ ∷ _ ∷ _ ∷ _ ∷ _) a b d e f g h n = absurd (omega arith)
-
--- Seven zeros are a prefix of no cycle.
-pub no_prefix : IsPrefix (replicate 7 0)
-no_prefix = record { seven = refl; each = λ c l h. absurd (omega arith) }
 
 -- ---- laying it
 

@@ -1,9 +1,11 @@
 -- The lines of the log. "Lines end in LF, hex in capitals, one space between fields .. The letter stands first."
-use Rattle.std.specs.Prelude.{ℕ, Bool, cond, List, [], ◌∷◌, ◌++◌}
+use Rattle.std.specs.Prelude.{ℕ, List, [], ◌∷◌, ◌++◌}
 use Rattle.text.specs.Bytes.{bytes}
 use Rattle.text.specs.Numerals.{digits, decimal}
 use Rattle.text.specs.Lines.{LF}
 use Rattle.isa.specs.Registers.{io_name}
+use Rattle.isa.specs.declared.Access.{Access}
+use Rattle.isa.specs.declared.Access.TheVariants.{Read, Write}
 
 -- A space and a field.
 abbrev pub field : List ℕ → List ℕ
@@ -23,8 +25,9 @@ unfoldable pub line_h : ℕ → List ℕ → ℕ → ℕ → List ℕ
 line_h c access n x = bytes "H" ++ field (decimal c) ++ field access ++ field (io_name n) ++ field (digits 16 8 x) ++ (LF ∷ [])
 
 -- "READ or WRITE"
-abbrev pub access_name : Bool → List ℕ
-access_name writes = cond writes (bytes "WRITE") (bytes "READ")
+abbrev pub access_name : Access → List ℕ
+access_name Read = bytes "READ"
+access_name Write = bytes "WRITE"
 
 -- "L and D: cycle, new value (8)."
 unfoldable pub line_ld : List ℕ → ℕ → ℕ → List ℕ

@@ -1,8 +1,7 @@
 -- The prefix of the lines H, L and D (for the code): numbers that hold it. All but its last two characters are the same for up to a hundred cycles.
-use Rattle.std.specs.Prelude.{ℕ, ◌+◌, ◌-◌, ◌*◌, ◌/◌, ◌%◌, ◌^◌, ◌≤◌, ◌<◌, ◌≡◌, List, ◌∷◌, ◌++◌, length, get_or, take}
+use Rattle.std.specs.Prelude.{ℕ, ◌+◌, ◌-◌, ◌*◌, ◌/◌, ◌%◌, ◌^◌, ◌≤◌, ◌<◌, ◌≡◌, List, ◌∷◌, ◌++◌, take}
 use Rattle.text.specs.Numerals.{digit, digit_count, decimal, low_bytes}
 use Rattle.trace.specs.LogLines.{field}
-use Rattle.trace.specs.declared.Prefix.{Prefix}
 
 -- What such a line begins with: its letter, and the field of its cycle.
 abbrev pub cycle_prefix : ℕ → ℕ → List ℕ
@@ -23,16 +22,5 @@ pub record GivesPrefix (base lowered count held more c : ℕ) : Type 0 where
   pub front : (letter : ℕ) → letter < 256 → take count (low_bytes 8 (held + letter) ++ low_bytes 8 more) ++ last_two (c - base) lowered ≡ cycle_prefix letter c
 
 -- They give it for each cycle from the first one to the one before `until`.
-abbrev pub IsValid : Prefix → Type 0
-IsValid s = (c : ℕ) → s.first ≤ c → c < s.until → GivesPrefix s.base s.lowered s.count s.held s.more c
-
--- ---- as the code stores it: seven numbers in the order first, until, base, lowered, count, held, more
-
--- It is valid for the cycle c.
-abbrev pub ValidFor : ℕ → List ℕ → Type 0
-ValidFor c prefix = GivesPrefix (get_or prefix 2 0) (get_or prefix 3 0) (get_or prefix 4 0) (get_or prefix 5 0) (get_or prefix 6 0) c
-
--- It is valid for each cycle from its first one to the one before `until`.
-pub record IsPrefix (prefix : List ℕ) : Type 0 where
-  pub seven : length prefix ≡ 7
-  pub each : (c : ℕ) → get_or prefix 0 0 ≤ c → c < get_or prefix 1 0 → ValidFor c prefix
+abbrev pub GivesEach : (first until base lowered count held more : ℕ) → Type 0
+GivesEach first until base lowered count held more = (c : ℕ) → first ≤ c → c < until → GivesPrefix base lowered count held more c

@@ -1,22 +1,23 @@
 // Fields of a line: a space, and what stands after it.
+// Stays (1, 2, 4): each field is put at a place of the lent log (no heap), and each differs in what its bytes are; the register's number is the one that a program computed.
 ghost use Rattle.std.specs.Prelude.{◌≡◌, [], ◌∷◌, ◌++◌, ◌+◌, ◌≤◌, length};
 ghost use Rattle.text.specs.Lines.{LF as lf};
-ghost use Rattle.text.specs.Numerals.{digits, low_bytes, HexWords};
+ghost use Rattle.text.specs.Numerals.{digits, low_bytes};
 ghost use Rattle.text.specs.Place.{put};
 ghost use Rattle.isa.specs.Registers.{io_name};
 ghost use Rattle.trace.specs.LogLines.{field};
 
 use names::put_io_name;
-use text::hex_words::{put_eight, put_hex_word};
+use text::hex_words::{HexTable, put_eight};
 use text::lines::LF;
 
 // A word in hexadecimal; returns the place after it.
-pub fn put_word(out: &mut [u8], at: usize, x: u32, table: &[u64; 1024]) -> usize
-    requires { (at + 9 ≤ length out.old) × HexWords table.now }
+pub fn put_word(out: &mut [u8], at: usize, x: u32, table: &HexTable) -> usize
+    requires { at + 9 ≤ length out.old }
     ensures { (out.new ≡ put out.old at (field (digits 16 8 x))) × (result ≡ at + 9) }
 {
     out[at] = b' ';
-    put_hex_word(out, at + 1, x, table);
+    table.put_hex_word(out, at + 1, x);
     at + 9
 }
 

@@ -1,64 +1,85 @@
 // The prefix of the lines H, L and D, in numbers that are valid for up to a hundred cycles.
-ghost use Rattle.std.specs.Prelude.{◌≡◌, cond, List, ◌++◌, ℕ, ◌+◌, ◌-◌, ◌*◌, ◌/◌, ◌%◌, ◌^◌, ◌≤◌, ◌<◌, ltb, length};
-ghost use Rattle.text.specs.Numerals.{digit, digit_count, low_bytes, HexWords};
+// Stays (1, 4, 5): the letter is the byte that the line begins with; the text goes to a place of the lent log (no heap).
+ghost use Rattle.std.specs.Prelude.{◌≡◌, cond, List, ◌++◌, ℕ, ◌+◌, ◌-◌, ◌*◌, ◌/◌, ◌%◌, ◌^◌, ◌≤◌, ◌<◌, ltb, length, take};
+ghost use Rattle.text.specs.Numerals.{digit, digits as digits_of, digit_count, low_bytes};
 ghost use Rattle.text.specs.Place.{put};
-ghost use Rattle.trace.specs.Prefixes.{cycle_prefix, IsValid, ValidFor, IsPrefix};
+ghost use Rattle.trace.specs.Prefixes.{cycle_prefix, GivesEach};
 
-use crate::Prefix;
 use text::decimal::{digit_count, take_digits};
-use text::hex_words::{put_eight, put_two};
-
-// Where the numbers stand.
-const FIRST: usize = 0;
-
-const UNTIL: usize = 1;
-
-const BASE: usize = 2;
-
-const LOWERED: usize = 3;
-
-const COUNT: usize = 4;
-
-const HELD: usize = 5;
-
-const MORE: usize = 6;
+use text::hex_words::{HexTable, put_eight, put_two};
 
 // A blank in the second byte of a number.
 const BLANK: u64 = 0x2000;
 
-// Makes the prefix valid for the cycle c: the old one stays, or one is made anew.
-pub fn update_prefix(prefix: &mut [u64; 7], c: u64)
-    requires { IsPrefix prefix.old × (c < 2 ^ 40) }
-    ensures { IsPrefix prefix.new × ValidFor c prefix.new }
-{
-    if c < prefix[FIRST] {
-        store_prefix(prefix, prefix_of(c), c);
-        return;
-    }
-    if prefix[UNTIL] <= c {
-        store_prefix(prefix, prefix_of(c), c);
-        return;
-    }
+// The prefix of the lines H, L and D, their letter and the cycle, but for its last two characters. It is valid for up to a hundred cycles.
+#[derive(Drop)]
+pub struct Prefix {
+    // The first cycle that it is valid for, and the one after the last.
+    pub first: u64,
+    pub until: u64,
+    // The last two characters of a cycle's prefix are the two digits of what it is above this, ..
+    pub base: u64,
+    // .. the first of them lowered by this: a 0 becomes a blank in the prefix of a cycle of one digit.
+    pub lowered: u64,
+    // How many bytes stand before them, the line's letter among them.
+    pub count: u64,
+    // These bytes, the first in the low byte of the first number; where the letter goes there is 0.
+    pub held: u64,
+    pub more: u64,
+    pub ghost valid: { GivesEach first until base lowered count held more },
 }
 
-// Stores a prefix that is valid for the cycle c.
-fn store_prefix(prefix: &mut [u64; 7], s: Prefix, c: u64)
-    requires { (length prefix.old ≡ 7) × (IsValid s × ((s.first ≤ c) × (c < s.until))) }
-    ensures { IsPrefix prefix.new × ValidFor c prefix.new }
-{
-    prefix[FIRST] = s.first;
-    prefix[UNTIL] = s.until;
-    prefix[BASE] = s.base;
-    prefix[LOWERED] = s.lowered;
-    prefix[COUNT] = s.count;
-    prefix[HELD] = s.held;
-    prefix[MORE] = s.more;
+impl Prefix {
+    ghost use Rattle.trace.specs.ValidPrefixes.{ValidFor};
+
+    // A prefix that is valid for no cycle.
+    pub fn none() -> Prefix {
+        Prefix {
+            first: 0,
+            until: 0,
+            base: 0,
+            lowered: 0,
+            count: 0,
+            held: 0,
+            more: 0,
+        }
+    }
+
+    // Makes the prefix valid for the cycle c: the old one stays, or one is made anew.
+    pub fn update(&mut self, c: u64)
+        requires { c < 2 ^ 40 }
+        ensures { ValidFor c self.new }
+    {
+        if c < self.first || self.until <= c {
+            *self = prefix_of(c);
+        }
+    }
+
+    // Puts the letter of a line and the cycle c at a place, and returns the place after them. Up to five bytes after that place are written too: what is put next goes over them.
+    pub fn put_cycle(
+        &self,
+        out: &mut [u8],
+        at: usize,
+        letter: u8,
+        c: u64,
+        table: &HexTable,
+    ) -> usize
+        requires { (at + digit_count 10 c + 7 ≤ length out.old) × ValidFor c self.now }
+        ensures { (result ≡ at + 2 + digit_count 10 c) × ((rest : List ℕ) → 5 ≤ length rest → put out.new result rest ≡ put out.old at (cycle_prefix letter c ++ rest)) }
+    {
+        let count = self.count as usize;
+        let last = last_two(c - self.base, self.lowered, table);
+        put_eight(out, at, self.held + u64::from(letter));
+        put_more(out, at, count, self.more);
+        put_two(out, at + count, last);
+        at + count + 2
+    }
 }
 
 // The prefix that is valid for the cycle c.
 fn prefix_of(c: u64) -> Prefix
     requires { c < 2 ^ 40 }
-    ensures { IsValid result × ((result.first ≤ c) × (c < result.until)) }
+    ensures { (result.first ≤ c) × (c < result.until) }
 {
     if c < 10 {
         return Prefix {
@@ -88,7 +109,7 @@ fn prefix_of(c: u64) -> Prefix
 // The prefix of the hundred cycles that begin with these digits.
 fn prefix_of_hundred(digits: u64) -> Prefix
     requires { (1 ≤ digits) × (digits < 10 ^ 11) }
-    ensures { IsValid result × ((result.first ≡ digits * 100) × (result.until ≡ digits * 100 + 100)) }
+    ensures { (result.first ≡ digits * 100) × (result.until ≡ digits * 100 + 100) }
 {
     let n = digit_count(digits);
     if n <= 6 {
@@ -102,8 +123,11 @@ fn prefix_of_hundred(digits: u64) -> Prefix
 
 // The prefix of a hundred cycles that begin with these n digits, which two numbers hold: six at most the first, and those after them the other.
 fn hundred_cycles(digits: u64, n: usize, held: u64, more: u64) -> Prefix
-    requires { (digits < 10 ^ 11) × ((n ≤ 11) × (held < 256 ^ 6)) }
-    ensures { (result.first ≡ digits * 100) × ((result.until ≡ digits * 100 + 100) × ((result.base ≡ digits * 100) × ((result.lowered ≡ 0) × ((result.count ≡ n + 2) × ((result.held ≡ held * 65536 + 8192) × (result.more ≡ more)))))) }
+    requires some { (1 ≤ digits) × (digits < 10 ^ 11) }
+    requires counted { (n ≡ digit_count 10 digits) × (n ≤ 11) }
+    requires fits { held < 256 ^ 6 }
+    requires hold { take n (low_bytes 6 held ++ low_bytes 8 more) ≡ digits_of 10 n digits }
+    ensures { (result.first ≡ digits * 100) × (result.until ≡ digits * 100 + 100) }
 {
     Prefix {
         first: digits * 100,
@@ -114,26 +138,6 @@ fn hundred_cycles(digits: u64, n: usize, held: u64, more: u64) -> Prefix
         held: held * 0x1_0000 + BLANK,
         more: more,
     }
-}
-
-// Puts the letter of a line and the cycle c at a place, and returns the place after them. Up to five bytes after that place are written too: what is put next goes over them.
-pub fn put_cycle(
-    out: &mut [u8],
-    at: usize,
-    letter: u8,
-    c: u64,
-    prefix: &[u64; 7],
-    table: &[u64; 1024],
-) -> usize
-    requires { (at + digit_count 10 c + 7 ≤ length out.old) × (HexWords table.now × ValidFor c prefix.now) }
-    ensures { (result ≡ at + 2 + digit_count 10 c) × ((rest : List ℕ) → 5 ≤ length rest → put out.new result rest ≡ put out.old at (cycle_prefix letter c ++ rest)) }
-{
-    let count = prefix[COUNT] as usize;
-    let last = last_two(c - prefix[BASE], prefix[LOWERED], table);
-    put_eight(out, at, prefix[HELD] + letter as u64);
-    put_more(out, at, count, prefix[MORE]);
-    put_two(out, at + count, last);
-    at + count + 2
 }
 
 // Puts what is held beyond eight bytes, if there are so many.
@@ -147,9 +151,9 @@ fn put_more(out: &mut [u8], at: usize, count: usize, more: u64)
 }
 
 // The two decimal digits of a number below 100 in a number, the first of them lowered: they are the hexadecimal digits of another.
-fn last_two(n: u64, lowered: u64, table: &[u64; 1024]) -> u64
-    requires { (n < 100) × ((lowered ≤ 16) × HexWords table.now) }
+fn last_two(n: u64, lowered: u64, table: &HexTable) -> u64
+    requires { (n < 100) × (lowered ≤ 16) }
     ensures { result ≡ digit (n / 10) + digit (n % 10) * 256 - lowered }
 {
-    table[(n + n / 10 * 6) as usize] - lowered
+    table.pair(0, (n + n / 10 * 6) as u8) - lowered
 }

@@ -2,6 +2,5 @@
 #![tactic(auto)]
 
 pub mod arithmetic;
-pub mod copies;
 pub mod operations;
 pub mod signed;

@@ -1,4 +1,5 @@
 // The calculations and comparisons of the instruction set, by opcode.
+// Stays (1, 7): calculate and compare match on the opcode's number, as document 01 has it; a decoded kind made a cycle slower (docs/DECISIONS.md).
 ghost use Rattle.std.specs.Prelude.{◌≡◌, ◌<◌, ◌≤◌};
 ghost use Rattle.isa.specs.Operations.{calculation_of, comparison_of};
 ghost use Rattle.words.specs.Words.{calculated, holds as holds_of};

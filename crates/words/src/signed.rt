@@ -1,4 +1,5 @@
 // Words read as signed numbers.
+// Stays (4): each has the definition as its contract, which the laws of the instruction set cite.
 ghost use Rattle.std.specs.Prelude.{◌≡◌, ◌^◌, ◌<◌};
 ghost use Rattle.std.specs.Int.Signed.{shr_z};
 ghost use Rattle.std.specs.Int.{w32};
@@ -8,18 +9,14 @@ ghost use Rattle.std.proofs.Common.{to_z, of_z};
 pub fn signed(x: u32) -> i32
     ensures { result ≡ to_z w32 x }
 {
-    if x < 0x8000_0000 {
-        x as i32
-    } else {
-        !(!x as i32)
-    }
+    x.cast_signed()
 }
 
 // The word that a signed number is.
 pub fn unsigned(z: i32) -> u32
     ensures { result ≡ of_z w32 z }
 {
-    if z < 0 { !(!z as u32) } else { z as u32 }
+    z.cast_unsigned()
 }
 
 // A word moved right by n, its sign copied.

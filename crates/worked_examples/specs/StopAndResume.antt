@@ -1,6 +1,12 @@
 -- A run that is stopped and resumed by real calls, and demand 3 of them.
-use Rattle.std.specs.Prelude.{ℕ, List, [], ◌∷◌}
+use Rattle.std.specs.Prelude.{ℕ, ◌*◌, ◌≡◌, Result, List, [], ◌∷◌}
 use Rattle.text.specs.declared.Outcome.{Outcome}
+use Rattle.text.specs.Questions.{unless_refused}
+use Rattle.text.specs.Place.{put}
+use Rattle.files.specs.declared.FileError.{FileError}
+use Rattle.files.specs.Sizes.{word_digits, is_part_length}
+use Rattle.files.specs.Promises.{MemoryRead}
+use Rattle.files.specs.Answers.{file_read_outcome}
 use Rattle.machine.specs.declared.Record.{Record}
 use Rattle.saved.specs.Calls.{fresh_record}
 use Rattle.claim.specs.Calls.{Call, run, trip, Done, halves, tripped}
@@ -26,6 +32,14 @@ SectorReturns disk sector text words o disk' text' words' =
     (irq2 image : List ℕ) (r : Record) (memory frame : List ℕ) (same : SameLength (the_sectors sector 1) words)
     → Made irq2 (standing_of image r memory disk frame) (trip (the_sectors sector 1) text words same)
     (tripped lab o (standing_of image r memory disk' frame) (halves (the_sectors sector 1) text' words'))
+
+-- The second half of it (for the code): the text is read into words by `read_disk`, which is accepted where the words stand in the sector's place.
+abbrev pub SectorPlaced : (disk : List ℕ) (sector : ℕ) (text words : List ℕ) → Outcome → (disk' words' : List ℕ) → Type 0
+SectorPlaced disk sector text words o disk' words' =
+    (answer : Result (Unit {0}) FileError)
+    × MemoryRead word_digits is_part_length text words answer words'
+    × (o ≡ file_read_outcome answer)
+    × (disk' ≡ unless_refused o (put disk (128 * sector) words') disk)
 
 -- ---- the list of calls
 

@@ -1,5 +1,6 @@
 // Document 01's proved examples and the mistakes it excludes, each computed: definitions and theorems, in specs/. And one list of real calls, with what
 // demand 3 says of it: a run that is stopped and resumed.
+// Stays (1): the theorem `StopAndResume` speaks of the record read, fresh where none was.
 #![tactic(auto)]
 
 use machine::Record;

@@ -1,4 +1,5 @@
 // A run that is stopped and resumed.
+// Stays (4, 5): two must-fail edits change these lines; the C interface lends the memories one by one.
 ghost use Rattle.worked_examples.specs.StopAndResume.{lent_of, StopAndResume};
 
 use crate::Resumed;

@@ -1,15 +1,16 @@
 // Return trips: what is written is read back, and takes its place.
+// Stays (2, 4, 5): a sector's words take its place; the sector is the file's.
 ghost use Rattle.std.specs.Prelude.{◌≡◌, ◌+◌, ◌*◌, ◌≤◌, length};
 ghost use Rattle.text.specs.Place.{put};
-ghost use Rattle.worked_examples.specs.StopAndResume.{RecordReturns, SectorReturns};
+ghost use Rattle.saved.specs.Calls.{fresh_record};
+ghost use Rattle.worked_examples.specs.StopAndResume.{RecordReturns, SectorReturns, SectorPlaced};
 
 use crate::RecordTrip;
 use files::{read_disk, write_disk};
 use machine::Record;
 use saved::{fresh_record, load, save};
 use text::Outcome;
-use text::outcomes::accepted;
-use words::copies::copy_words;
+use text::outcomes::{Refusal, accepted};
 
 // The words of a sector.
 const SECTOR: usize = 128;
@@ -18,29 +19,27 @@ const SECTOR: usize = 128;
 pub fn save_and_load(r: Record, bytes: &mut [u8]) -> RecordTrip
     ensures { RecordReturns r bytes.old result bytes.new }
 {
-    let answer = save(r, bytes);
-    let saved = answer.outcome();
-    if saved.number != 0 {
-        return record_trip(r, fresh_record(), saved);
+    if let Err(error) = save(r, bytes) {
+        return refused_trip(r, error.outcome());
     }
-    let l = load(bytes);
-    let loaded_answer = l.answer;
-    let read = l.state;
-    let loaded = loaded_answer.outcome();
-    if loaded.number != 0 {
-        return record_trip(r, read, loaded);
+    match load(bytes) {
+        Ok(read) => RecordTrip {
+            state: read,
+            read,
+            outcome: accepted(0),
+        },
+        Err(error) => refused_trip(r, error.outcome()),
     }
-    record_trip(read, read, accepted(0))
 }
 
-// A record's return trip.
-fn record_trip(state: Record, read: Record, outcome: Outcome) -> RecordTrip
-    ensures { (result.state ≡ state) × (result.read ≡ read) × (result.outcome ≡ outcome) }
+// A return trip that was refused: the record to go on with is the old one.
+fn refused_trip(state: Record, outcome: Outcome) -> RecordTrip
+    ensures { result ≡ record { state = state; read = fresh_record; outcome = outcome } }
 {
     RecordTrip {
-        state: state,
-        read: read,
-        outcome: outcome,
+        state,
+        read: fresh_record(),
+        outcome,
     }
 }
 
@@ -54,16 +53,19 @@ pub fn write_and_read(
     requires { length words.old ≡ 128 }
     ensures { SectorReturns disk.old sector text.old words.old result disk.new text.new words.new }
 {
-    let answer = write_disk(disk, sector, 1, text);
-    let written = answer.outcome();
-    if written.number != 0 {
-        return written;
+    match write_disk(disk, sector, 1, text) {
+        Ok(count) => read_and_place(disk, sector, &text[..count], words),
+        Err(error) => error.outcome(),
     }
-    let count = written.count;
-    let read_answer = read_disk(&text[..count], words);
-    let read = read_answer.outcome();
-    if read.number != 0 {
-        return read;
+}
+
+// Reads the text of a sector into words, which take the sector's place.
+fn read_and_place(disk: &mut [u32], sector: usize, text: &[u8], words: &mut [u32]) -> Outcome
+    requires { (length disk.old ≡ 16384) × (sector + 1 ≤ 128) × (length words.old ≡ 128) }
+    ensures { SectorPlaced disk.old sector text.now words.old result disk.new words.new }
+{
+    if let Err(error) = read_disk(text, words) {
+        return error.outcome();
     }
     place_sector(disk, sector, words);
     accepted(0)
@@ -76,5 +78,5 @@ fn place_sector(disk: &mut [u32], sector: usize, words: &[u32])
 {
     let start = SECTOR * sector;
     let end = start + SECTOR;
-    copy_words(&mut disk[start..end], words);
+    disk[start..end].copy_from_slice(words);
 }

@@ -1,15 +1,10 @@
-use native.Mathlib.Omega.{arith}
-use Rattle.irq2_list.proofs.PlaceLaws.{scan_begun, scan_turned, scan_failed, scan_finished}
+use mathlib.Core.Path.{◌≡◌}
+use lib.Dec.{ltb}
+use Rattle.std.proofs.Common.{rules}
+use Rattle.std.proofs.lemmas.List.Sorted.{answers_always}
+use Rattle.irq2_list.proofs.PlaceLaws.{rising-answer}
 use Rattle.irq2_list.proofs.is_rising.Goals as goal
 
-pub loop-i-init : goal.loop-i-init
-loop-i-init c = scan_begun _
-
-pub returns-then-cycles-i : goal.returns-then-cycles-i
-returns-then-cycles-i c = scan_failed c.loop-i.invariant (omega arith) (omega arith)
-
-pub loop-i-preserved : goal.loop-i-preserved
-loop-i-preserved c = scan_turned c.loop-i.invariant (omega arith) (omega arith)
-
 pub returns : goal.returns
-returns c = scan_finished c.loop-i.invariant (omega arith)
+returns c =
+    rising-answer c.args.cycles.now _ (c.is_sorted_by.ensures.cases (λ x y. ltb x y) (answers_always _ (λ a r. r ≡ ltb a.0.now a.1.0.now) _ (λ f a r f' k. search rules)))

@@ -1,9 +1,15 @@
 use native.Mathlib.Omega.{arith}
-use Rattle.irq2_list.proofs.PlaceLaws.{rises, between_up, between_down}
+use lib.Dec.{ltb}
+use Rattle.std.proofs.Common.{rules}
+use Rattle.std.proofs.lemmas.List.Sorted.{IsPartitionPoint-from_clause}
+use Rattle.irq2_list.proofs.PlaceLaws.{rises, parted, between-parted, between_found}
 use Rattle.irq2_list.proofs.place_of.Goals as goal
 
-pub loop-low-preserved-then-cycles-middle : goal.loop-low-preserved-then-cycles-middle
-loop-low-preserved-then-cycles-middle c = between_up c.loop-low.invariant (rises _ c.requires) _ (omega arith) (omega arith) c.if-cycles-middle.true
-
-pub loop-low-preserved : goal.loop-low-preserved
-loop-low-preserved c = between_down c.loop-low.invariant (rises _ c.requires) _ (omega arith) (omega arith) (omega arith)
+pub returns : goal.returns
+returns c =
+    let cycles = c.args.cycles.now in
+    let place = c.partition_point.ensures in
+    between_found
+    (between-parted c.args.c _ cycles place.bound
+    (IsPartitionPoint-from_clause (λ x. ltb x c.args.c) cycles _ place.partitioned (parted c.args.c cycles (rises cycles c.requires)) (λ a r q k. search rules)))
+    (omega arith)

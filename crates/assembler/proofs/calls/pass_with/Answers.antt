@@ -1,9 +1,9 @@
-use Prim.Native.Nat.{ℕ}
-use mathlib.Core.Path.{refl}
 use native.Mathlib.Omega.{arith}
-use lib.ListN.{length-replicate}
 use Rattle.symbols.proofs.EmptyLaws.{zeros_empty}
 use Rattle.assembler.proofs.calls.pass_with.Goals as goal
 
-pub add_names-requires : goal.add_names-requires
-add_names-requires c = (refl, zeros_empty 8812 (omega arith), omega (arith, length-replicate {A = ℕ} 8812 0))
+pub new-names-requires-clause-empty : goal.new-names-requires-clause-empty
+new-names-requires-clause-empty g c = zeros_empty 8812 (omega arith)
+
+pub find_labels-requires-clause-empty : goal.find_labels-requires-clause-empty
+find_labels-requires-clause-empty g c = zeros_empty g.row.WORDS c.requires.table

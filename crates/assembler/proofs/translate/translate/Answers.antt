@@ -1,31 +1,52 @@
+use Prim.Native.Nat.{◌+◌}
+use Rattle.std.specs.Int.{from_bool}
+use mathlib.Core.Path.{◌∙◌, ap}
 use native.Mathlib.Omega.{arith}
-use Rattle.assembler.proofs.TranslateLaws.{none_translated, after-done, fewer, all_translated, one_bad, code-placed, one_translated}
+use Rattle.lines.specs.Line.{form_of}
+use Rattle.statements.specs.Errors.{question_of}
+use Rattle.assembler.proofs.TranslateLaws.{none_translated, after-done, fewer, all_translated, one_bad, code-placed, one_translated, counted_on}
 use Rattle.assembler.proofs.translate.translate.Goals as goal
 
 pub loop-p-init : goal.loop-p-init
-loop-p-init c = let s = c.requires in (none_translated _ _ _ s.5 s.6, omega arith, s.4, omega arith)
+loop-p-init c = record { done = none_translated _ _ _ c.requires.words c.requires.memory; within = omega arith; few = omega arith }
 
-pub ask-number-requires : goal.ask-number-requires
-ask-number-requires c = (c.line_form-f.ensures, c.requires.2, c.read_statement-s.ensures, fewer c.loop-p.invariant.0 c.requires.2)
+pub ask-requires-clause-few : goal.ask-requires-clause-few
+ask-requires-clause-few c = fewer c.loop-p.invariant.done c.args.labels.now.found
 
-pub returns-then-number-ne0 : goal.returns-then-number-ne0
-returns-then-number-ne0 c = let l = c.loop-p in let e = c.line_end-e in
-    one_bad l.invariant.0 c.loop-p-test.true e.result e.ensures.0 c.ask-number.result (c.ask-number.ensures l.invariant.0.done (after-done l.invariant.0)) c.if-number-ne0.true
+pub returns-in-Err : goal.returns-in-Err
+returns-in-Err c =
+    let d = c.loop-p.invariant.done in
+    let e = c.line_end-e in
+    let asks = rw c.line_form-line.ensures at (c.ask.ensures d.done (after-done d)) in
+    rw c.at_line.ensures (one_bad d c.loop-p-test.true e.result e.ensures.0 (question_of c.ask.result) asks c.in-Err.error (ap question_of c.in-Err.is))
 
 pub store_code-requires : goal.store_code-requires
-store_code-requires c = let l = c.loop-p in let e = c.line_end-e in λ h. rw l.invariant.0.room
-    (code-placed l.invariant.0 c.loop-p-test.true e.result e.ensures.0 c.ask-number.result (c.ask-number.ensures l.invariant.0.done (after-done l.invariant.0))
-    c.if-number-ne0.false c.line_form-f.result c.line_form-f.ensures.is c.read_statement-s.result c.read_statement-s.ensures h)
+store_code-requires c =
+    let d = c.loop-p.invariant.done in
+    let e = c.line_end-e in
+    let l = c.line_form-line in
+    let asks = rw l.ensures at (c.ask.ensures d.done (after-done d)) in
+    let says = rw l.ensures at c.read_statement-s.ensures in
+    λ h. rw d.room
+    (code-placed d c.loop-p-test.true e.result e.ensures.0 (question_of c.ask.result) asks (ap question_of c.in_default.is) l.result.form (l.result.formed.is ∙ ap form_of l.ensures)
+    c.read_statement-s.result says h)
 
 pub loop-p-preserved : goal.loop-p-preserved
-loop-p-preserved c = let l = c.loop-p in let e = c.line_end-e in (
-  one_translated l.invariant.0 c.loop-p-test.true e.result e.ensures.0 c.ask-number.result (c.ask-number.ensures l.invariant.0.done (after-done l.invariant.0))
-      c.if-number-ne0.false c.line_form-f.result c.line_form-f.ensures.is c.read_statement-s.result c.read_statement-s.ensures _ _ c.after_code-n.result
-      c.after_label-m.result c.store_code.ensures c.store_data.ensures c.after_code-n.ensures c.after_label-m.ensures,
-  omega (arith, e.ensures.1),
-  c.line_form-f.ensures.room,
-  omega (arith, e.ensures.0),
-)
+loop-p-preserved c =
+    let d = c.loop-p.invariant.done in
+    let e = c.line_end-e in
+    let l = c.line_form-line in
+    let asks = rw l.ensures at (c.ask.ensures d.done (after-done d)) in
+    let says = rw l.ensures at c.read_statement-s.ensures in
+    let n = c.from-n.ensures ∙ ap from_bool c.has_code.ensures in
+    let m = c.from-m.ensures ∙ ap from_bool c.has_label.ensures in
+    record {
+      done =
+          one_translated d c.loop-p-test.true e.result e.ensures.0 (question_of c.ask.result) asks (ap question_of c.in_default.is) l.result.form (l.result.formed.is ∙ ap form_of l.ensures)
+          c.read_statement-s.result says _ _ _ _ c.store_code.ensures c.store_data.ensures (counted_on _ c.loop-p.n _ (ap (λ k. c.loop-p.n + k) n)) (counted_on _ c.loop-p.m _ (ap (λ k. c.loop-p.m + k) m));
+      within = omega (arith, e.ensures.1);
+      few = let h = c.loop-p.invariant.few in omega (arith, e.ensures.0);
+    }
 
 pub returns : goal.returns
-returns c = all_translated c.loop-p.invariant.0 (omega arith)
+returns c = all_translated c.loop-p.invariant.done (omega arith)

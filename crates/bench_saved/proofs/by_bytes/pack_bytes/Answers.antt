@@ -68,7 +68,7 @@ append-acc-requires c =
     let width_small : get_or c.args.widths.now c.loop-n.i 0 ≤ 40 = narrow_at 40 c.args.widths.now c.loop-n.i c.requires.small in
     let value-small : get_or c.args.values.now c.loop-n.i 0
     < 2 ^ get_or c.args.widths.now c.loop-n.i 0 = fit_at c.args.widths.now c.args.values.now c.loop-n.i c.requires.fitting in
-    let w = c.wide-w.ensures in
+    let w = c.from-w.ensures in
     let b = width_small in
     (omega arith, rw w (value-small))
 
@@ -96,11 +96,11 @@ loop-n-preserved c =
     let value-small : get_or c.args.values.now c.loop-n.i 0
     < 2 ^ get_or c.args.widths.now c.loop-n.i 0 = fit_at c.args.widths.now c.args.values.now c.loop-n.i c.requires.fitting in
     let l = c.loop-n in
-    let w = c.wide-w.ensures in
+    let w = c.from-w.ensures in
     let b = width_small in
     let f = c.if-have-ge8.false in
-    let room : l.have + c.wide-w.result < 64 = omega arith in
-    let held = ap (λ (x : ℕ). x % 2 ^ (l.have + c.wide-w.result)) c.append-acc.ensures ∙ shifted_low l.acc l.have c.wide-w.result _ (omega arith) (rw w (value-small)) in
+    let room : l.have + c.from-w.result < 64 = omega arith in
+    let held = ap (λ (x : ℕ). x % 2 ^ (l.have + c.from-w.result)) c.append-acc.ensures ∙ shifted_low l.acc l.have c.from-w.result _ (omega arith) (rw w (value-small)) in
     pulled l.invariant _ _ _ w (packed-at c.args.widths.now c.args.values.now l.i c.requires.fitting) held (more) room
 
 pub returns : goal.returns

@@ -18,7 +18,7 @@ loop-i-preserved c =
     let s = c.args in
     let l = c.loop-i in
     let v = get_or s.values.now l.i 0 in
-    let w = c.wide in
+    let w = c.from in
     let fits : eqb c.bits_above-over.result 0 ≡ ltb v (2 ^ w.result) = rw c.bits_above-over.ensures (shift_test v w.result) in
     l.invariant
     ∙ ap (λ (t : Bool). eqb l.over 0 && t) (fit_turn s.widths.now s.values.now l.i _ _ c.loop-i-test.true (value_there) w.ensures fits)

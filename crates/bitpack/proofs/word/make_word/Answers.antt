@@ -28,7 +28,7 @@ pub append-requires : goal.append-requires
 append-requires c =
     let most : get_or c.args.widths.now c.args.i 0 ≤ 40 = narrow_at 40 c.args.widths.now c.args.i c.requires.small in
     let m = most in
-    let w = c.wide in
+    let w = c.from in
     let e = w.ensures in
     let h = c.requires.within in
     let cut : (w.result - c.args.last) + c.args.last ≡ w.result = omega arith in
@@ -36,4 +36,4 @@ append-requires c =
     (omega arith, shr_lt (w.result - c.args.last) c.args.last value)
 
 pub returns : goal.returns
-returns c = word-is c.requires _ _ _ c.wide.ensures refl c.append.ensures
+returns c = word-is c.requires _ _ _ c.from.ensures refl c.append.ensures

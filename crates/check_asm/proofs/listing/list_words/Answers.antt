@@ -5,4 +5,4 @@ use Rattle.check_asm.proofs.TrialLaws.{listed_into}
 use Rattle.check_asm.proofs.listing.list_words.Goals as goal
 
 pub returns : goal.returns
-returns c = listed_into c.list.ensures (omega (arith, c.list.auto.text)) (ap (λ (t : Outcome). t.count) c.outcome.ensures)
+returns c = listed_into c.list.ensures (omega (arith, c.list.auto.text)) (ap (λ (t : Outcome). t.count) c.counted.ensures)

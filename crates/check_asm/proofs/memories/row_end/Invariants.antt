@@ -1,11 +1,8 @@
 use mathlib.Core.Path.{◌≡◌}
-use Prim.Native.Nat.{◌+◌, ◌-◌, ◌≤◌, ◌<◌}
-use lib.ListN.{length, drop}
+use Prim.Native.Nat.{◌+◌, ◌<◌}
+use lib.ListN.{drop}
 use Rattle.check_asm.specs.Rows.{in_row, row_end}
 use Rattle.check_asm.proofs.memories.row_end.Given as goal
 
 abbrev pub invariant-loop-end : goal.invariant-loop-end
-invariant-loop-end l = (row_end l.words l.i ≡ l.end + in_row l.word (drop l.end l.words)) × (l.i < l.end) × (l.end ≤ length l.words)
-
-abbrev pub decreases-loop-end : goal.decreases-loop-end
-decreases-loop-end l = length l.words - l.end
+invariant-loop-end l = (row_end l.words l.i ≡ l.end + in_row l.word (drop l.end l.words)) × (l.i < l.end)

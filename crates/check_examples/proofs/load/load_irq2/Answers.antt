@@ -6,4 +6,4 @@ pub returns : goal.returns
 returns c =
     let same = rw c.in_default.is at c.load_irq2.ensures in
     let read = c.read_irq2.ensures in
-    (are_cycles _ _ _ _ read _ c.outcome.ensures, rw same at (cycles-loaded read c.outcome.ensures))
+    (are_cycles _ _ _ _ read _ c.counted.ensures, rw same at (cycles-loaded read c.counted.ensures))

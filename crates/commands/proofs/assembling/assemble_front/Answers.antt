@@ -3,4 +3,4 @@ use Rattle.commands.proofs.assembling.assemble_front.Goals as goal
 
 pub returns : goal.returns
 returns c =
-    front-assembled c.args.buffer.now c.args.n c.requires.0 c.assemble.ensures c.outcome.ensures
+    front-assembled c.args.buffer.now c.args.n c.requires.0 c.assemble.ensures c.done.ensures

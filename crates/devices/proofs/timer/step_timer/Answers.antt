@@ -12,4 +12,4 @@ returns-then-current-io c = rw (eq-eqb _ _ c.if-io-ne1.false, eq-eqb _ _ c.if-cu
 
 pub returns : goal.returns
 unfolding timed
-returns c = rw (eq-eqb _ _ c.if-io-ne1.false, ne_eqb _ _ c.if-current-io.false, c.wrapping_add_u32.ensures.value)
+returns c = rw (eq-eqb _ _ c.if-io-ne1.false, ne_eqb _ _ c.if-current-io.false)

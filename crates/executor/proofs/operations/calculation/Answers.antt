@@ -8,9 +8,7 @@ pub returns : goal.returns
 unfolding executed
 returns c =
     let a = c.args in
-    let p = c.put_register.ensures in (
-      λ io memory disk frame.
-          rw (calculation_at a.op c.requires.0, c.onward.ensures, ← c.calculate.ensures)
-          (ap onward (register-put a.c a.regs.now _ io memory disk frame a.o.target c.calculate.result p.0)),
-      p.1,
-    )
+    let p = c.put.ensures in
+    λ io memory disk frame.
+    rw (calculation_at a.op c.requires.0, c.onward.ensures, ← c.calculate.ensures)
+    (ap onward (register-put a.c a.registers.now.regs _ io memory disk frame a.o.target c.calculate.result p))

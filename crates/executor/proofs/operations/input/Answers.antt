@@ -11,13 +11,11 @@ pub returns-then-is_listed : goal.returns-then-is_listed
 unfolding executed
 returns-then-is_listed c =
     let a = c.args in
-    let p = c.put_register.ensures in (
-      λ memory disk frame.
-          rw (← c.plus-a.ensures, ← c.is_listed.ensures, c.if-is_listed.true, c.onward.ensures)
-          (ap onward (register-put a.c a.regs.now _ a.io.now memory disk frame a.o.target _ p.0)),
-      p.1,
-    )
+    let p = c.put.ensures in
+    λ memory disk frame.
+    rw (← c.plus-a.ensures, ← c.is_listed.ensures, c.if-is_listed.true, c.onward.ensures)
+    (ap onward (register-put a.c a.registers.now.regs _ a.io.now memory disk frame a.o.target _ p))
 
 pub returns : goal.returns
 unfolding executed
-returns c = (λ memory disk frame. rw (← c.plus-a.ensures, ← c.is_listed.ensures, c.if-is_listed.false, c.end.ensures) refl, c.requires.1.0)
+returns c = λ memory disk frame. rw (← c.plus-a.ensures, ← c.is_listed.ensures, c.if-is_listed.false, c.end.ensures) refl

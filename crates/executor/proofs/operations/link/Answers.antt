@@ -8,9 +8,7 @@ pub returns : goal.returns
 unfolding executed
 returns c =
     let a = c.args in
-    let p = c.put_register.ensures in (
-      λ io memory disk frame.
-          rw (c.jump.ensures, ← c.next.ensures)
-          (ap (λ (m : Machine). jumped a.o.rm m) (register-put a.c a.regs.now _ io memory disk frame a.o.target c.next.result p.0)),
-      p.1,
-    )
+    let p = c.put.ensures in
+    λ io memory disk frame.
+    rw (c.jump.ensures, ← c.next.ensures)
+    (ap (λ (m : Machine). jumped a.o.rm m) (register-put a.c a.registers.now.regs _ io memory disk frame a.o.target c.next.result p))

@@ -1,51 +1,47 @@
-use Prim.Native.Nat.{◌+◌, ◌≤◌}
-use mathlib.Core.Path.{◌≡◌, refl, sym, ◌∙◌}
-use mathlib.Core.Bool.{true}
+use Prim.Native.Nat.{◌+◌, ◌-◌, ◌*◌}
+use mathlib.Core.Path.{◌≡◌, sym, ◌∙◌}
+use native.Mathlib.Nat.{zero-mul, one-mul, add-mul}
 use native.Mathlib.Omega.{arith}
-use lib.ListN.{length, drop}
-use Rattle.text.specs.Lines.{first_line}
-use Rattle.files.specs.MemoryFile.{is_word, lines_outcome}
-use Rattle.files.proofs.CheckLaws.{check_full, check_bad, check_good, check_end, word-inside}
+use lib.ListN.{length, take, drop, length-drop}
+use lib.Seq.{take_all}
+use Rattle.files.specs.MemoryFile.{lines_outcome}
+use Rattle.files.proofs.ChunkLaws.{line-inside, lines-past}
+use Rattle.files.proofs.CheckLaws.{check_full, check_bad, check_good, check_end}
 use Rattle.files.proofs.check.check_words.Goals as goal
 
-pub loop-at-init : goal.loop-at-init
+pub loop-i-init : goal.loop-i-init
 unfolding lines_outcome
-loop-at-init c = (refl, omega arith, omega arith)
+loop-i-init c = rw zero-mul
 
 pub returns-then-room-i : goal.returns-then-room-i
-returns-then-room-i c = let l = c.loop-at in
+returns-then-room-i c =
     let a = c.args in
-    check_full a.k a.room a.text.now l.at l.i (omega arith) (omega arith) ∙ l.invariant.0
+    let i = c.loop-i.i in
+    let inside = line-inside (length a.text.now) (a.k + 1) i (omega arith) (rw c.div_ceil-i-end.ensures at c.loop-i-test.true) in
+    check_full a.k a.room a.text.now (i * (a.k + 1)) i inside c.if-room-i.true ∙ c.loop-i.invariant
 
 pub returns-then-not-is_word : goal.returns-then-not-is_word
-returns-then-not-is_word c = let l = c.loop-at in
+returns-then-not-is_word c =
     let a = c.args in
-    check_bad a.k a.room a.text.now l.at l.i (omega arith) (omega arith) (sym c.is_word.ensures ∙ c.if-not-is_word.true) ∙ l.invariant.0
+    let i = c.loop-i.i in
+    let at = i * (a.k + 1) in
+    let inside = line-inside (length a.text.now) (a.k + 1) i (omega arith) (rw c.div_ceil-i-end.ensures at c.loop-i-test.true) in
+    let rest : take (length a.text.now - at) (drop at a.text.now) ≡ drop at a.text.now = take_all _ (drop at a.text.now) (rw length-drop (omega arith)) in
+    check_bad a.k a.room a.text.now at i inside (omega arith) (rw rest at (sym c.is_word.ensures ∙ c.if-not-is_word.true)) ∙ c.loop-i.invariant
 
-pub overflow_add-at : goal.overflow_add-at
-overflow_add-at c =
-    let good-line : is_word c.args.k (first_line (drop c.loop-at.at c.args.text.now)) ≡ true = sym c.is_word.ensures ∙ c.if-not-is_word.false in
-    let within : c.loop-at.at + c.args.k ≤ length c.args.text.now = word-inside c.args.k c.args.text.now c.loop-at.at (good-line) c.loop-at-test.true in
-    omega (arith, within)
-
-pub overflow_add-at-in-loop-at : goal.overflow_add-at-in-loop-at
-overflow_add-at-in-loop-at c =
-    let good-line : is_word c.args.k (first_line (drop c.loop-at.at c.args.text.now)) ≡ true = sym c.is_word.ensures ∙ c.if-not-is_word.false in
-    let within : c.loop-at.at + c.args.k ≤ length c.args.text.now = word-inside c.args.k c.args.text.now c.loop-at.at (good-line) c.loop-at-test.true in
-    omega (arith, within)
-
-pub loop-at-preserved : goal.loop-at-preserved
-loop-at-preserved c =
-    let good-line : is_word c.args.k (first_line (drop c.loop-at.at c.args.text.now)) ≡ true = sym c.is_word.ensures ∙ c.if-not-is_word.false in
-    let within : c.loop-at.at + c.args.k ≤ length c.args.text.now = word-inside c.args.k c.args.text.now c.loop-at.at (good-line) c.loop-at-test.true in
-    let l = c.loop-at in
-    let a = c.args in (
-      check_good a.k a.room a.text.now l.at l.i (omega arith) (omega arith) (good-line) ∙ l.invariant.0,
-      omega arith,
-      omega (arith, within),
-    )
+pub loop-i-preserved : goal.loop-i-preserved
+loop-i-preserved c =
+    let a = c.args in
+    let i = c.loop-i.i in
+    let at = i * (a.k + 1) in
+    let inside = line-inside (length a.text.now) (a.k + 1) i (omega arith) (rw c.div_ceil-i-end.ensures at c.loop-i-test.true) in
+    let rest : take (length a.text.now - at) (drop at a.text.now) ≡ drop at a.text.now = take_all _ (drop at a.text.now) (rw length-drop (omega arith)) in
+    let next : (i + 1) * (a.k + 1) ≡ at + (a.k + 1) = rw (add-mul, one-mul) in
+    rw next (check_good a.k a.room a.text.now at i inside (omega arith) (rw rest at (sym c.is_word.ensures ∙ c.if-not-is_word.false)) ∙ c.loop-i.invariant)
 
 pub returns : goal.returns
-returns c = let l = c.loop-at in
+returns c =
     let a = c.args in
-    check_end a.k a.room a.text.now l.at l.i (omega arith) ∙ l.invariant.0
+    let i = c.loop-i.i in
+    let past = lines-past (length a.text.now) (a.k + 1) i (omega arith) (rw c.div_ceil-i-end.ensures at c.loop-i-test.false) in
+    check_end a.k a.room a.text.now (i * (a.k + 1)) i past ∙ c.loop-i.invariant

@@ -1,25 +1,23 @@
-use Prim.Native.Nat.{ℕ, ◌+◌, ◌-◌}
-use mathlib.Core.Path.{◌≡◌, ◌∙◌, sym, ap}
+use mathlib.Core.Path.{◌≡◌, sym, ◌∙◌}
+use mathlib.Core.Bool.{true}
 use native.Mathlib.Omega.{arith}
-use lib.ListN.{take, drop, length-drop}
-use Rattle.text.specs.Numerals.{all_digits}
-use Rattle.text.proofs.LineLaws.{ends-drop}
+use lib.ListN.{length}
+use lib.Dec.{leb}
+use borrow.Author.Tests.{leb-true}
 use Rattle.files.proofs.CheckLaws.{word_short, word_long, word-front}
 use Rattle.files.proofs.check.is_word.Goals as goal
+use Rattle.files.proofs.check.is_word.Goals.{then-k-text, else-k-text}
 
-pub returns-then-text-at : goal.returns-then-text-at
-returns-then-text-at c = let a = c.args in
-    word_short a.k (drop a.at a.text.now) (rw length-drop (omega arith))
+pub returns-then-ends_line : goal.returns-then-ends_line
+returns-then-ends_line c =
+    elim c.if-k-text.branch [
+      | then-k-text w ↦ c.all_digits.ensures ∙ word-front c.args.k c.args.text.now w.if-k-text.true (sym w.ends_line.ensures ∙ sym w.value-is ∙ c.if-ends_line.true)
+      | else-k-text w ↦ absurd (let short : leb c.args.k (length c.args.text.now) ≡ true = sym w.value-is ∙ c.if-ends_line.true in let le = leb-true _ _ short in let lt = w.if-k-text.false in omega arith)
+    ]
 
-pub returns-then-not-ends_line : goal.returns-then-not-ends_line
-returns-then-not-ends_line c = let a = c.args in
-    word_long a.k (drop a.at a.text.now)
-    (ends-drop a.text.now a.at a.k (omega arith) ∙ sym c.ends_line.ensures ∙ c.if-not-ends_line.true)
-
-pub returns : goal.returns
-returns c = let a = c.args in
-    let size : a.at + a.k - a.at ≡ a.k = omega arith in
-    let rest = drop a.at a.text.now in
-    c.all_digits.ensures ∙ ap (λ (n : ℕ). all_digits 16 (take n rest)) size
-    ∙ word-front a.k rest (rw length-drop (omega arith))
-    (ends-drop a.text.now a.at a.k (omega arith) ∙ sym c.ends_line.ensures ∙ c.if-not-ends_line.false)
+pub returns-else-ends_line : goal.returns-else-ends_line
+returns-else-ends_line c =
+    elim c.if-k-text.branch [
+      | then-k-text w ↦ c.if-ends_line.false ∙ word_long c.args.k c.args.text.now (sym w.ends_line.ensures ∙ sym w.value-is ∙ c.if-ends_line.false)
+      | else-k-text w ↦ c.if-ends_line.false ∙ word_short c.args.k c.args.text.now w.if-k-text.false
+    ]

@@ -1,10 +1,7 @@
-use Prim.Native.Nat.{◌+◌, ◌-◌}
+use Prim.Native.Nat.{◌+◌, ◌*◌}
 use lib.ListN.{length}
 use Rattle.files.proofs.FillLaws.{Filling}
 use Rattle.files.proofs.fill.fill_words.Given as goal
 
-abbrev pub invariant-loop-at : goal.invariant-loop-at
-invariant-loop-at l = Filling l.k (length l.initial.memory) l.text l.memory l.at l.i
-
-abbrev pub decreases-loop-at : goal.decreases-loop-at
-decreases-loop-at l = length l.text + 1 - l.at
+abbrev pub invariant-loop-i : goal.invariant-loop-i
+invariant-loop-i g l = Filling g.C.Cell.DIGITS (length l.initial.memory) l.text (g.C.Cell.numbers l.memory) (l.i * (g.C.Cell.DIGITS + 1)) l.i

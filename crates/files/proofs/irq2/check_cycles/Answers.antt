@@ -32,7 +32,7 @@ returns-then-cycle-least c = let l = c.loop-at in
     let a = c.args in
     let e = c.short_line_end-end in
     let line = take (e.result - l.at) (drop l.at a.text.now) in
-    let outcome = sym c.in-Value.ensures in
+    let outcome = sym c.in-Some.ensures in
     let is = number-value (is_cycle line) (value 10 line) _ outcome in
     cycle_low a.room a.text.now l.at l.i e.result c.loop-at-test.true e.ensures.0 _ c.if-room-i.false
     (number_yes (is_cycle line) (value 10 line) _ outcome) (rw (← is, ← l.invariant.2) c.if-cycle-least.true) ∙ l.invariant.0
@@ -43,7 +43,7 @@ loop-at-preserved c = let l = c.loop-at in
     let e = c.short_line_end-end in
     let inside = c.loop-at-test.true in
     let line = take (e.result - l.at) (drop l.at a.text.now) in
-    let outcome = sym c.in-Value.ensures in
+    let outcome = sym c.in-Some.ensures in
     let is = number-value (is_cycle line) (value 10 line) _ outcome in
     let split = lines_at_lem a.text.now l.at e.result inside e.ensures.0 in
     let from = sym split ∙ l.invariant.1 in

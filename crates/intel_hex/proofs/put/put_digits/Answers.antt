@@ -8,22 +8,20 @@ use Rattle.intel_hex.proofs.put.put_digits.Goals as goal
 pub loop-i-preserved : goal.loop-i-preserved
 loop-i-preserved c =
     let l = c.loop-i in
-    let a = c.args in
-    let p = c.put_hex_word in
+    let ws = c.args.words.now in
     let half = c.half_sums-sums.ensures in
-    let small : get_or a.words.now l.i 0 < 2 ^ 32 = omega (arith, c.shared_slice_known-in-loop-i-1.given l.i) in
-    let ws = a.words.now in
-    let few : l.sums % 65536 < 2040 = omega arith in (
-      digits_turn ws l.i l.out _ a.at (omega arith) p.ensures ∙ l.invariant.0,
-      sum_turn ws l.i l.sums _ (omega arith) half small few ∙ l.invariant.1,
-      omega (arith, low_le l.sums (get_or ws l.i 0) _ half small few),
-      omega (arith, high_le l.sums (get_or ws l.i 0) _ half small few),
-      omega (arith, p.auto),
-      omega arith,
-    )
+    let small : get_or ws l.i 0 < 2 ^ 32 = omega (arith, c.type_inv.words l.i) in
+    let few : l.sums % 65536 < 2040 = omega arith in
+    record {
+      digits = digits_turn ws l.i l.out _ c.args.at (omega arith) c.put_hex_word.ensures ∙ l.invariant.digits;
+      sum = sum_turn ws l.i l.sums _ (omega arith) half small few ∙ l.invariant.sum;
+      low = omega (arith, low_le l.sums (get_or ws l.i 0) _ half small few);
+      high = omega (arith, high_le l.sums (get_or ws l.i 0) _ half small few);
+    }
 
 pub returns : goal.returns
 returns c =
     let l = c.loop-i in
-    let a = c.args in
-    (digits-end a.words.now l.i l.out (a.at + l.i * 8) (omega arith) ∙ l.invariant.0, sum_end a.words.now l.i (l.sums % 65536 + l.sums / 65536) (omega arith) ∙ l.invariant.1, omega arith)
+    let ws = c.args.words.now in
+    let p = l.invariant in
+    (digits-end ws l.i l.out (c.args.at + l.i * 8) (omega arith) ∙ p.digits, sum_end ws l.i (l.sums % 65536 + l.sums / 65536) (omega arith) ∙ p.sum, omega arith)

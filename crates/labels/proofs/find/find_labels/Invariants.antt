@@ -2,11 +2,15 @@ use Prim.Native.Nat.{◌+◌, ◌-◌, ◌≤◌}
 use mathlib.Core.Path.{◌≡◌}
 use lib.ListN.{length}
 use Rattle.labels.proofs.FirstPassLaws.{Noting}
-use Rattle.lines.specs.Parts.{most_places}
 use Rattle.labels.proofs.find.find_labels.Given as goal
 
 abbrev pub invariant-loop-p : goal.invariant-loop-p
-invariant-loop-p l = (Noting l.source l.table l.values l.p l.n l.m) × (l.p ≤ length l.source + 1) × (length l.table ≡ length l.initial.table) × (length l.places ≡ most_places)
+invariant-loop-p l = record {
+  source : l.names.source.now ≡ l.source;
+  noted : Noting l.source l.names.words.now l.values l.p l.n l.names.count;
+  within : l.p ≤ length l.source + 1;
+  room : length l.names.words.now ≡ length l.fn.words;
+}
 
 abbrev pub decreases-loop-p : goal.decreases-loop-p
 decreases-loop-p l = length l.source + 1 - l.p

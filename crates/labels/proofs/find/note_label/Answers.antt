@@ -1,30 +1,46 @@
-use Rattle.symbols.specs.Table.{names_of}
-use lib.Dec.{ltb}
-use Rattle.labels.proofs.LabelPlaces.{label_of_lem, names_more}
-use Rattle.labels.proofs.FirstPassLaws.{size_kept}
-use mathlib.Core.Path.{refl, sym, ◌∙◌}
+use mathlib.Core.Path.{sym, ◌∙◌}
 use mathlib.Core.Bool.{false≢true}
 use native.Mathlib.Omega.{arith}
+use Rattle.symbols.specs.Table.{names_of}
+use Rattle.labels.proofs.LabelPlaces.{label_in, label_of_lem, names_more}
 use Rattle.labels.proofs.find.note_label.Goals as goal
 
-pub overflow_sub-end : goal.overflow_sub-end
-overflow_sub-end c = let s = c.requires in let l = label_of_lem s.0 s.1 s.3 (sym c.has_label.ensures ∙ c.if-not-has_label.false) in omega (arith, l.order, l.within, s.1)
+pub overflow_sub-p : goal.overflow_sub-p
+overflow_sub-p c =
+    let t = c.args.line.now in
+    let l = label_in t.tokens.split t.formed (sym c.has_label.ensures ∙ c.if-not-has_label.false) in
+    omega (arith, l.order)
 
-pub add-requires : goal.add-requires
-add-requires c = let s = c.requires in let l = label_of_lem s.0 s.1 s.3 (sym c.has_label.ensures ∙ c.if-not-has_label.false) in
-    (s.4, omega (arith, l.order), omega (arith, l.within, s.1), s.2, s.7, s.5)
+pub add-requires-clause-order : goal.add-requires-clause-order
+add-requires-clause-order c =
+    let t = c.args.line.now in
+    let l = label_in t.tokens.split t.formed (sym c.has_label.ensures ∙ c.if-not-has_label.false) in
+    omega (arith, l.order)
 
-pub returns : goal.returns
-returns c = let s = c.requires in let yes-label = sym c.has_label.ensures ∙ c.if-not-has_label.false in
-    let l = label_of_lem s.0 s.1 s.3 yes-label in let a = c.args in
+pub add-requires-clause-within : goal.add-requires-clause-within
+add-requires-clause-within c =
+    let t = c.args.line.now in
+    let r = c.requires in
+    let l = label_of_lem r.order r.within r.line (label_in t.tokens.split t.formed (sym c.has_label.ensures ∙ c.if-not-has_label.false)) in
+    omega (arith, l.within, r.within)
+
+pub returns-clause-label : goal.returns-clause-label
+returns-clause-label c =
+    let t = c.args.line.now in
+    let r = c.requires in
+    let yes-label = sym c.has_label.ensures ∙ c.if-not-has_label.false in
+    let l = label_of_lem r.order r.within r.line (label_in t.tokens.split t.formed yes-label) in
+    let count = c.add.ensures.count in
+    let source = c.add.ensures.source in
+    let names = rw (source, count) at c.add.ensures.names in
+    let a = c.args.names.now in
     record {
       none = λ q. absurd (false≢true (sym q ∙ yes-label));
       some = λ q. (
-        refl,
-        c.add.ensures.0,
-        c.add.ensures.1 ∙ names_more (names_of a.source.now a.table.now a.m) _ _ l.is,
+        count,
+        names ∙ names_more (names_of a.source.now a.words.now a.count) _ _ l.is,
         c.note_value.ensures,
         omega (arith, l.order, l.within),
       );
-      sizes = (c.add.ensures.2, size_kept (ltb a.m 1024) a.values.now _ a.m a.n c.note_value.ensures);
+      room = c.add.ensures.room;
     }

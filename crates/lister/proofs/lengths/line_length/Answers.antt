@@ -10,8 +10,8 @@ pub returns : goal.returns
 returns c =
     let f = c.decode-f.result in
     let word = c.args.word in
-    let op = rw c.operation_place.ensures.1 at c.piece_length.ensures.0 in
+    let op = rw c.operation_place.ensures.piece at c.length.ensures.length in
     let whole = length-line word f c.decode-f.ensures in
-    let total : c.piece_length.result + (c.register_length.result + c.register_length-2.result + c.register_length-3.result + c.register_length-4.result) + (c.immediate_length.result + c.immediate_length-2.result) + 3 ≡ length (listed_line word) + 1 =
+    let total : c.length.result + (c.register_length.result + c.register_length-2.result + c.register_length-3.result + c.register_length-4.result) + (c.immediate_length.result + c.immediate_length-2.result) + 3 ≡ length (listed_line word) + 1 =
     omega (arith, op, length-operation f.op, length-register f.rd, length-register f.rs, length-register f.rt, length-register f.rm) in
-    (total, omega (arith, total, line_most word))
+    record { length = total; most = omega (arith, total, line_most word) }

@@ -10,4 +10,4 @@ pub returns-then-words-room : goal.returns-then-words-room
 returns-then-words-room c =
     let a = c.args in
     let most = listing_most a.words.now in
-    sym (le-leb (length (listing a.words.now)) a.room (omega arith))
+    rw (le-leb _ _ c.if-words-room.true) (sym (le-leb (length (listing a.words.now)) a.room (omega arith)))

@@ -3,4 +3,4 @@ use Rattle.memories.proofs.cycles.fill_cycles.Goals as goal
 
 pub returns : goal.returns
 returns c =
-    front-cycles c.args.buffer.now c.args.n c.requires.0 c.read_irq2.ensures c.outcome.ensures
+    front-cycles c.args.buffer.now c.args.n c.requires.0 c.read_irq2.ensures c.counted.ensures

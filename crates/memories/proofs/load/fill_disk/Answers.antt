@@ -6,4 +6,4 @@ use Rattle.memories.proofs.load.fill_disk.Goals as goal
 
 pub returns : goal.returns
 returns c =
-    front_read c.args.buffer.now c.args.n c.read_disk.ensures c.outcome.ensures (λ e. omega (arith, part_most (length c.args.disk.now) e, c.requires.0))
+    front_read c.args.buffer.now c.args.n c.read_disk.ensures c.done.ensures (λ e. omega (arith, part_most (length c.args.disk.now) e, c.requires.0))

@@ -2,4 +2,4 @@ use Rattle.memories.proofs.LoadLaws.{loaded}
 use Rattle.memories.proofs.load_at.load_data_at.Goals as goal
 
 pub returns : goal.returns
-returns c = loaded _ _ _ _ c.load_data-load.result c.load_data-load.ensures c.is_loaded.ensures
+returns c = loaded c.in_ok-outcome.ensures _ c.in_ok-accept.ensures

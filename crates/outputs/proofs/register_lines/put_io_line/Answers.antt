@@ -7,7 +7,7 @@ pub put_io_name-value_at-requires : goal.put_io_name-value_at-requires
 put_io_name-value_at-requires c = omega (arith, name-length c.args.n)
 
 pub put_last_word-requires : goal.put_last_word-requires
-put_last_word-requires c = (omega (arith, name-length c.args.n, c.put_io_name-value_at.ensures.1, c.put_io_name-value_at.auto.out), c.requires.2)
+put_last_word-requires c = omega (arith, name-length c.args.n, c.put_io_name-value_at.ensures.1, c.put_io_name-value_at.auto.out)
 
 pub returns : goal.returns
 returns c =

@@ -5,7 +5,7 @@ use Rattle.outputs.proofs.PieceLaws.{none_yet, next-line}
 use Rattle.outputs.proofs.register_lines.put_io_lines.Goals as goal
 
 pub loop-i-init : goal.loop-i-init
-loop-i-init c = let a = c.args in (none_yet (io_line a.io.now) saved_io a.out.now a.at, refl, omega arith, omega arith)
+loop-i-init c = let a = c.args in (none_yet (io_line a.io.now) saved_io a.out.now a.at, refl, omega arith)
 
 pub loop-i-preserved : goal.loop-i-preserved
 loop-i-preserved c =
@@ -15,5 +15,4 @@ loop-i-preserved c =
       next-line (io_line a.io.now) saved_io a.out.now a.at l.i _ l.out _ l.end _ (omega arith) c.saved_io-n.ensures.0 l.invariant.0 (p.ensures.0, p.ensures.1),
       p.auto.out ∙ l.invariant.1,
       omega (arith, p.ensures.2),
-      omega arith,
     )

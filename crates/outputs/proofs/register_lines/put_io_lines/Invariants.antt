@@ -1,4 +1,4 @@
-use Prim.Native.Nat.{◌+◌, ◌-◌, ◌*◌, ◌≤◌}
+use Prim.Native.Nat.{◌+◌, ◌*◌, ◌≤◌}
 use mathlib.Core.Path.{◌≡◌}
 use mathlib.Core.List.{map}
 use lib.ListN.{length, take}
@@ -8,7 +8,4 @@ use Rattle.outputs.proofs.PieceLaws.{Piece}
 use Rattle.outputs.proofs.register_lines.put_io_lines.Given as goal
 
 abbrev pub invariant-loop-i : goal.invariant-loop-i
-invariant-loop-i l = Piece l.initial.out l.at (unlines (map (io_line l.io) (take l.i saved_io))) l.out l.end × (length l.out ≡ length l.initial.out) × (l.end ≤ l.at + l.i * 22) × (l.i ≤ 20)
-
-abbrev pub decreases-loop-i : goal.decreases-loop-i
-decreases-loop-i l = 20 - l.i
+invariant-loop-i l = Piece l.initial.out l.at (unlines (map (io_line l.io) (take l.i saved_io))) l.out l.end × (length l.out ≡ length l.initial.out) × (l.end ≤ l.at + l.i * 22)

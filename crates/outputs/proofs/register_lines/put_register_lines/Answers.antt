@@ -7,7 +7,7 @@ use Rattle.outputs.proofs.RegisterLaws.{register-number}
 use Rattle.outputs.proofs.register_lines.put_register_lines.Goals as goal
 
 pub loop-i-init : goal.loop-i-init
-loop-i-init c = let a = c.args in (none_yet (register_line a.regs.now) saved_registers a.out.now a.at, refl, omega arith, omega arith)
+loop-i-init c = let a = c.args in (none_yet (register_line a.regs.now) saved_registers a.out.now a.at, refl, omega arith)
 
 pub loop-i-preserved : goal.loop-i-preserved
 loop-i-preserved c =
@@ -18,5 +18,4 @@ loop-i-preserved c =
       next-line (register_line a.regs.now) saved_registers a.out.now a.at l.i (3 + l.i) l.out _ l.end _ (omega arith) (register-number l.i (omega arith)) l.invariant.0 (rw place (p.ensures.0, p.ensures.1)),
       p.auto.out ∙ l.invariant.1,
       omega (arith, p.ensures.2),
-      omega arith,
     )

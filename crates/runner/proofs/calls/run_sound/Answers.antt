@@ -4,4 +4,4 @@ use Rattle.runner.proofs.calls.run_sound.Goals as goal
 pub make_cycles-e-requires-clause-sound : goal.make_cycles-e-requires-clause-sound
 make_cycles-e-requires-clause-sound c =
     let p = c.requires in
-    (rw c.all_registers-regs.ensures.0 (sound_yes _ p.0), p.1.0)
+    rw c.of_record-registers.ensures (sound_yes _ p.0)

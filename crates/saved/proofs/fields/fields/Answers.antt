@@ -11,4 +11,4 @@ unfolding fields_of
 returns c =
     let regs_13 : length c.args.r.regs ≡ 13 = search rules in
     let put_13 : length c.widen.new.to ≡ 13 = rw c.widen.ensures (regs_13) in
-    rw (other_io c.widen.new.to (put_13) c.widen-2.new.to, c.widen.ensures, c.widen-2.ensures)
+    rw (other_io c.widen.new.to (put_13) c.widen-2.new.to, c.widen.ensures, c.widen-2.ensures, c.from.ensures, c.from-2.ensures, c.from-3.ensures, c.from-4.ensures, c.from-5.ensures, c.from-6.ensures)

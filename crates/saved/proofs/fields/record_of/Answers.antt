@@ -1,21 +1,20 @@
-use native.Mathlib.Omega.{arith}
-use mathlib.Core.Path.{refl}
+use Rattle.std.proofs.Common.{refl, arith}
 use Rattle.isa.specs.Registers.{io_bits}
 use Rattle.saved.proofs.FieldLaws.{small-field, has_record}
 use Rattle.saved.specs.Layout.{widths, record_of}
 use Rattle.saved.proofs.fields.record_of.Goals as goal
 
-pub short-requires : goal.short-requires
+pub overflow_cast-d : goal.overflow_cast-d
 unfolding widths
-short-requires c = small-field widths c.args.f c.requires 5 refl
+overflow_cast-d c = record { fits = small-field widths c.args.f c.requires 5 refl }
 
-pub short-requires-2 : goal.short-requires-2
+pub overflow_cast-d-2 : goal.overflow_cast-d-2
 unfolding widths
-short-requires-2 c = small-field widths c.args.f c.requires 6 refl
+overflow_cast-d-2 c = record { fits = small-field widths c.args.f c.requires 6 refl }
 
-pub short-requires-3 : goal.short-requires-3
+pub overflow_cast-d-3 : goal.overflow_cast-d-3
 unfolding widths
-short-requires-3 c = small-field widths c.args.f c.requires 7 refl
+overflow_cast-d-3 c = record { fits = small-field widths c.args.f c.requires 7 refl }
 
 pub record_from-requires : goal.record_from-requires
 unfolding widths io_bits
@@ -23,4 +22,4 @@ record_from-requires c = has_record widths c.args.f c.requires 8 (omega arith) (
 
 pub returns : goal.returns
 unfolding record_of
-returns c = rw (c.record_from.ensures, c.short.ensures, c.short-2.ensures, c.short-3.ensures) refl
+returns c = rw c.record_from.ensures refl

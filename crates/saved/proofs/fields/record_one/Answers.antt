@@ -1,13 +1,12 @@
-use native.Mathlib.Omega.{arith}
-use mathlib.Core.Path.{refl}
+use Rattle.std.proofs.Common.{refl, arith}
 use Rattle.isa.specs.Registers.{io_bits}
 use Rattle.saved.proofs.FieldLaws.{small-field, has_record}
 use Rattle.saved.specs.Layout.{widths_one, record_one}
 use Rattle.saved.proofs.fields.record_one.Goals as goal
 
-pub short-requires : goal.short-requires
+pub overflow_cast-d : goal.overflow_cast-d
 unfolding widths_one
-short-requires c = small-field widths_one c.args.f c.requires 5 refl
+overflow_cast-d c = record { fits = small-field widths_one c.args.f c.requires 5 refl }
 
 pub record_from-requires : goal.record_from-requires
 unfolding widths_one io_bits
@@ -15,4 +14,4 @@ record_from-requires c = has_record widths_one c.args.f c.requires 6 (omega arit
 
 pub returns : goal.returns
 unfolding record_one
-returns c = rw (c.record_from.ensures, c.short.ensures) refl
+returns c = rw c.record_from.ensures refl

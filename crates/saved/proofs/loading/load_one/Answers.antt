@@ -24,7 +24,7 @@ known b size = rw size refl
 pub returns-then-f-ne-EDITION_ONE : goal.returns-then-f-ne-EDITION_ONE
 returns-then-f-ne-EDITION_ONE c =
     let fields_are : c.unpack.new.values ≡ fields_in edition_one c.args.bytes.now = unfold fields_in widths_one io_bits in c.unpack.ensures in
-    load_edition c.args.bytes.now edition_one (format_one c.args.bytes.now c.requires) (known c.args.bytes.now c.requires) (rw (← fields_are) (ne_eqb _ 1 c.if-f-ne-EDITION_ONE.true)) _ c.refused.ensures
+    load_edition c.args.bytes.now edition_one (format_one c.args.bytes.now c.requires) (known c.args.bytes.now c.requires) (rw (← fields_are) (ne_eqb _ 1 c.if-f-ne-EDITION_ONE.true))
 
 pub record_one-state-requires : goal.record_one-state-requires
 record_one-state-requires c =
@@ -38,7 +38,7 @@ returns-then-not-is_sound c =
     let sound-is : is_sound (record_one (fields_in edition_one c.args.bytes.now)) ≡ c.is_sound.result = sym (c.is_sound.ensures ∙ ap (λ (r : Record). is_sound r) (record_is)) in
     let edition-is : eqb (get_or (fields_in edition_one c.args.bytes.now) 0 0) 1 ≡ true = rw (← fields_are) (eq-eqb _ 1 c.if-f-ne-EDITION_ONE.false) in
     let no = one-sound c.args.bytes.now ∙ sound-is ∙ c.if-not-is_sound.true in
-    load_unsound c.args.bytes.now edition_one (format_one c.args.bytes.now c.requires) (known c.args.bytes.now c.requires) (edition-is) no _ c.refused-then-not-is_sound.ensures
+    load_unsound c.args.bytes.now edition_one (format_one c.args.bytes.now c.requires) (known c.args.bytes.now c.requires) (edition-is) no
 
 pub returns-then-f-ne0 : goal.returns-then-f-ne0
 returns-then-f-ne0 c =
@@ -47,7 +47,7 @@ returns-then-f-ne0 c =
     let sound-is : is_sound (record_one (fields_in edition_one c.args.bytes.now)) ≡ c.is_sound.result = sym (c.is_sound.ensures ∙ ap (λ (r : Record). is_sound r) (record_is)) in
     let edition-is : eqb (get_or (fields_in edition_one c.args.bytes.now) 0 0) 1 ≡ true = rw (← fields_are) (eq-eqb _ 1 c.if-f-ne-EDITION_ONE.false) in
     let yes = one-sound c.args.bytes.now ∙ sound-is ∙ c.if-not-is_sound.false in
-    load_busy c.args.bytes.now edition_one (format_one c.args.bytes.now c.requires) (known c.args.bytes.now c.requires) (edition-is) yes (one-busy c.args.bytes.now (rw (← fields_are) c.if-f-ne0.true)) _ c.refused-then-f-ne0.ensures
+    load_busy c.args.bytes.now edition_one (format_one c.args.bytes.now c.requires) (known c.args.bytes.now c.requires) (edition-is) yes (one-busy c.args.bytes.now (rw (← fields_are) c.if-f-ne0.true))
 
 pub returns : goal.returns
 returns c =

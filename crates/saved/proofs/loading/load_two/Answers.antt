@@ -24,13 +24,13 @@ known b size = rw size refl
 pub returns-then-f-ne-EDITION : goal.returns-then-f-ne-EDITION
 returns-then-f-ne-EDITION c =
     let fields_are : c.unpack.new.values ≡ fields_in edition_two c.args.bytes.now = unfold fields_in widths io_bits in c.unpack.ensures in
-    load_edition c.args.bytes.now edition_two (format_two c.args.bytes.now c.requires) (known c.args.bytes.now c.requires) (rw (← fields_are) (ne_eqb _ 2 c.if-f-ne-EDITION.true)) _ c.refused.ensures
+    load_edition c.args.bytes.now edition_two (format_two c.args.bytes.now c.requires) (known c.args.bytes.now c.requires) (rw (← fields_are) (ne_eqb _ 2 c.if-f-ne-EDITION.true))
 
 pub returns-then-f-ne0 : goal.returns-then-f-ne0
 returns-then-f-ne0 c =
     let fields_are : c.unpack.new.values ≡ fields_in edition_two c.args.bytes.now = unfold fields_in widths io_bits in c.unpack.ensures in
     let edition-is : eqb (get_or (fields_in edition_two c.args.bytes.now) 0 0) 2 ≡ true = rw (← fields_are) (eq-eqb _ 2 c.if-f-ne-EDITION.false) in
-    load_unsound c.args.bytes.now edition_two (format_two c.args.bytes.now c.requires) (known c.args.bytes.now c.requires) (edition-is) (two_last c.args.bytes.now (rw (← fields_are) c.if-f-ne0.true)) _ c.refused-then-f-ne0.ensures
+    load_unsound c.args.bytes.now edition_two (format_two c.args.bytes.now c.requires) (known c.args.bytes.now c.requires) (edition-is) (two_last c.args.bytes.now (rw (← fields_are) c.if-f-ne0.true))
 
 pub record_of-state-requires : goal.record_of-state-requires
 record_of-state-requires c =
@@ -51,7 +51,7 @@ returns-then-not-is_possible c =
     let edition-is : eqb (get_or (fields_in edition_two c.args.bytes.now) 0 0) 2 ≡ true = rw (← fields_are) (eq-eqb _ 2 c.if-f-ne-EDITION.false) in
     let last = two_sound c.args.bytes.now (rw (← fields_are) c.if-f-ne0.false) in
     let no = last ∙ sound-is ∙ c.if-not-is_possible.true in
-    load_unsound c.args.bytes.now edition_two (format_two c.args.bytes.now c.requires) (known c.args.bytes.now c.requires) (edition-is) no _ c.refused-then-not-is_possible.ensures
+    load_unsound c.args.bytes.now edition_two (format_two c.args.bytes.now c.requires) (known c.args.bytes.now c.requires) (edition-is) no
 
 pub returns : goal.returns
 returns c =

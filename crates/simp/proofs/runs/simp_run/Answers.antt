@@ -26,8 +26,8 @@ returns c =
     c.record_of.ensures
     (done_of r.result a.image.now r.new.memory r.new.disk r.new.frame r.new.log)
     r.ensures
-    c.outcome-outcome.result
-    c.outcome-outcome.ensures
+    c.outcome-number.result
+    c.outcome-number.ensures
     _
     c.put_record.ensures
     _

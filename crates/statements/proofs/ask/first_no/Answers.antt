@@ -4,14 +4,14 @@ use Rattle.statements.proofs.ask.first_no.Goals as goal
 
 pub returns-then-not-known : goal.returns-then-not-known
 returns-then-not-known c = rw (
-  right-form _ _ c.requires (sym c.is_right.ensures ∙ c.if-not-is_right.false),
+  right-form _ _ c.args.line.now.formed.is (sym c.is_right.ensures ∙ c.if-not-is_right.false),
   sym c.is_right.ensures ∙ c.if-not-is_right.false,
   c.if-not-known.true,
 )
 
 pub returns-then-not-inside : goal.returns-then-not-inside
 returns-then-not-inside c = rw (
-  right-form _ _ c.requires (sym c.is_right.ensures ∙ c.if-not-is_right.false),
+  right-form _ _ c.args.line.now.formed.is (sym c.is_right.ensures ∙ c.if-not-is_right.false),
   sym c.is_right.ensures ∙ c.if-not-is_right.false,
   c.if-not-known.false,
   c.if-not-inside.true,
@@ -19,7 +19,7 @@ returns-then-not-inside c = rw (
 
 pub returns-then-not-fresh : goal.returns-then-not-fresh
 returns-then-not-fresh c = rw (
-  right-form _ _ c.requires (sym c.is_right.ensures ∙ c.if-not-is_right.false),
+  right-form _ _ c.args.line.now.formed.is (sym c.is_right.ensures ∙ c.if-not-is_right.false),
   sym c.is_right.ensures ∙ c.if-not-is_right.false,
   c.if-not-known.false,
   c.if-not-inside.false,
@@ -28,7 +28,7 @@ returns-then-not-fresh c = rw (
 
 pub returns-then-not-defined : goal.returns-then-not-defined
 returns-then-not-defined c = rw (
-  right-form _ _ c.requires (sym c.is_right.ensures ∙ c.if-not-is_right.false),
+  right-form _ _ c.args.line.now.formed.is (sym c.is_right.ensures ∙ c.if-not-is_right.false),
   sym c.is_right.ensures ∙ c.if-not-is_right.false,
   c.if-not-known.false,
   c.if-not-inside.false,
@@ -38,7 +38,7 @@ returns-then-not-defined c = rw (
 
 pub returns-then-not-placed : goal.returns-then-not-placed
 returns-then-not-placed c = rw (
-  right-form _ _ c.requires (sym c.is_right.ensures ∙ c.if-not-is_right.false),
+  right-form _ _ c.args.line.now.formed.is (sym c.is_right.ensures ∙ c.if-not-is_right.false),
   sym c.is_right.ensures ∙ c.if-not-is_right.false,
   c.if-not-known.false,
   c.if-not-inside.false,
@@ -49,7 +49,7 @@ returns-then-not-placed c = rw (
 
 pub returns : goal.returns
 returns c = rw (
-  right-form _ _ c.requires (sym c.is_right.ensures ∙ c.if-not-is_right.false),
+  right-form _ _ c.args.line.now.formed.is (sym c.is_right.ensures ∙ c.if-not-is_right.false),
   sym c.is_right.ensures ∙ c.if-not-is_right.false,
   c.if-not-known.false,
   c.if-not-inside.false,

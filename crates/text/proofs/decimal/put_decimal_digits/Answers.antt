@@ -1,9 +1,9 @@
-use native.Mathlib.Omega.{arith}
+use Rattle.std.proofs.Common.{arith}
 use Rattle.text.proofs.WriteLaws.{one_written, all-written}
 use Rattle.text.proofs.decimal.put_decimal_digits.Goals as goal
 
-pub loop-left-preserved : goal.loop-left-preserved
-loop-left-preserved c = one_written c.loop-left.invariant (omega arith) _ c.digit.ensures
+pub loop-i-preserved : goal.loop-i-preserved
+loop-i-preserved c = one_written c.loop-i.invariant (omega arith) _ c.digit.ensures
 
 pub returns : goal.returns
-returns c = all-written c.loop-left.invariant (omega arith)
+returns c = all-written c.loop-i.invariant (omega arith)

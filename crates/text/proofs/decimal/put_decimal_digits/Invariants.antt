@@ -1,8 +1,5 @@
 use Rattle.text.proofs.WriteLaws.{Writing}
 use Rattle.text.proofs.decimal.put_decimal_digits.Given as goal
 
-abbrev pub invariant-loop-left : goal.invariant-loop-left
-invariant-loop-left l = Writing 10 l.initial.out l.at l.k l.v l.out l.left l.rest
-
-abbrev pub decreases-loop-left : goal.decreases-loop-left
-decreases-loop-left l = l.left
+abbrev pub invariant-loop-i : goal.invariant-loop-i
+invariant-loop-i l = Writing 10 l.initial.out l.at l.k l.v l.out l.i l.rest

@@ -1,4 +1,4 @@
-use Prim.Native.Nat.{ℕ, ◌+◌, ◌-◌, ◌*◌, ◌/◌, ◌%◌}
+use Rattle.std.proofs.Common.{ℕ, ◌+◌, ◌*◌, ◌/◌, ◌%◌}
 use Rattle.text.specs.Numerals.{digit}
 use Rattle.text.proofs.TableLaws.{Filled}
 use Rattle.text.proofs.digits.hex_pairs.Given as goal
@@ -9,6 +9,3 @@ pair k = digit (k / 16) + digit (k % 16) * 256
 
 abbrev pub invariant-loop-n : goal.invariant-loop-n
 invariant-loop-n l = Filled pair 256 256 l.table l.n
-
-abbrev pub decreases-loop-n : goal.decreases-loop-n
-decreases-loop-n l = 256 - l.n

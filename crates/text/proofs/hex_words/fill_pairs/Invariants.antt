@@ -1,10 +1,6 @@
-use Prim.Native.Nat.{◌-◌}
 use Rattle.text.proofs.TableLaws.{Filled}
 use Rattle.text.proofs.HexWordLaws.{pair}
 use Rattle.text.proofs.hex_words.fill_pairs.Given as goal
 
 abbrev pub invariant-loop-n : goal.invariant-loop-n
 invariant-loop-n l = Filled pair 1024 256 l.words l.n
-
-abbrev pub decreases-loop-n : goal.decreases-loop-n
-decreases-loop-n l = 256 - l.n

@@ -1,10 +1,6 @@
-use Prim.Native.Nat.{◌-◌, ◌≤◌}
 use Rattle.text.proofs.TableLaws.{Filled}
 use Rattle.text.proofs.HexWordLaws.{entry}
 use Rattle.text.proofs.hex_words.move_pairs.Given as goal
 
 abbrev pub invariant-loop-n : goal.invariant-loop-n
-invariant-loop-n l = (256 ≤ l.n) × Filled entry 1024 1024 l.words l.n
-
-abbrev pub decreases-loop-n : goal.decreases-loop-n
-decreases-loop-n l = 1024 - l.n
+invariant-loop-n l = Filled entry 1024 1024 l.words l.n

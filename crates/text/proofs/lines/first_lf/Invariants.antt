@@ -1,11 +1,6 @@
-use Prim.Native.Nat.{◌+◌, ◌-◌, ◌≤◌}
-use mathlib.Core.Path.{◌≡◌}
-use lib.ListN.{length, drop}
+use Rattle.std.proofs.Common.{◌≡◌, ◌+◌, length, drop}
 use Rattle.text.specs.Lines.{first_line}
 use Rattle.text.proofs.lines.first_lf.Given as goal
 
 abbrev pub invariant-loop-at : goal.invariant-loop-at
-invariant-loop-at l = (l.at + length (first_line (drop l.at l.s)) ≡ l.from + length (first_line (drop l.from l.s))) × (l.at ≤ l.to)
-
-abbrev pub decreases-loop-at : goal.decreases-loop-at
-decreases-loop-at l = l.to - l.at
+invariant-loop-at l = l.at + length (first_line (drop l.at l.s)) ≡ l.from + length (first_line (drop l.from l.s))

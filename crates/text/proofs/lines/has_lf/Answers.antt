@@ -1,13 +1,9 @@
-use mathlib.Core.Path.{◌∙◌}
-use native.Mathlib.Omega.{arith}
+use Rattle.std.proofs.Common.{◌∙◌, arith}
 use Rattle.text.proofs.LineLaws.{lf_more, lf_past}
 use Rattle.text.proofs.lines.has_lf.Goals as goal
 
-pub loop-i-preserved : goal.loop-i-preserved
-loop-i-preserved c = let l = c.loop-i in
-    let s = c.args.part.now in
-    (lf_more s l.i l.found (omega arith) ∙ l.invariant.0, omega arith)
+pub loop-b-preserved : goal.loop-b-preserved
+loop-b-preserved c = let l = c.loop-b in lf_more c.args.part.now l.b-index l.found (omega arith) ∙ l.invariant
 
 pub returns : goal.returns
-returns c = let l = c.loop-i in
-    lf_past c.args.part.now l.i l.found (omega arith) ∙ l.invariant.0
+returns c = let l = c.loop-b in lf_past c.args.part.now l.b-index l.found (omega arith) ∙ l.invariant

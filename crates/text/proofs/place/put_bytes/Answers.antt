@@ -1,15 +1,6 @@
-use mathlib.Core.Path.{refl, ◌∙◌}
-use native.Mathlib.Omega.{arith}
-use lib.ListN.{length-set}
-use Rattle.text.proofs.PutLaws.{copy_turn, copy_end}
+use Rattle.std.proofs.Common.{refl}
+use Rattle.text.proofs.PutLaws.{put_part}
 use Rattle.text.proofs.place.put_bytes.Goals as goal
 
-pub loop-i-preserved : goal.loop-i-preserved
-loop-i-preserved c = let l = c.loop-i in
-    let a = c.args in
-    (copy_turn l.out a.bytes.now a.at l.i (omega arith) ∙ l.invariant.0, simp length-set l.invariant.1, omega arith)
-
 pub returns : goal.returns
-returns c = let l = c.loop-i in
-    let a = c.args in
-    (copy_end l.out a.bytes.now a.at l.i (omega arith) ∙ l.invariant.0, refl)
+returns c = (put_part c.args.out.now c.args.bytes.now _ c.args.at c.requires c.copy_from_slice.ensures.after, refl)

@@ -1,5 +1,6 @@
-use Rattle.text.proofs.SameLaws.{other_length}
+use Rattle.std.proofs.Common.{◌∙◌}
+use Rattle.text.proofs.SameLaws.{same-is}
 use Rattle.text.proofs.same.are_same.Goals as goal
 
-pub returns-then-t-u : goal.returns-then-t-u
-returns-then-t-u c = let a = c.args in other_length a.t.now a.u.now c.if-t-u.true
+pub returns : goal.returns
+returns c = c.eq.ensures ∙ same-is c.args.t.now c.args.u.now

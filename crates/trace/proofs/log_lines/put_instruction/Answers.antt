@@ -9,4 +9,4 @@ returns c =
     let digits = c.front_digits.ensures in
     let next = c.put_hex_byte.ensures in
     let last = c.put_eight-2.ensures in
-    instruction_put a.pc a.word a.at a.out.now _ _ _ (rw digits at first) next (rw p.1.1 at last)
+    instruction_put a.pc a.word a.at a.out.now _ _ _ (rw digits at first) next (rw p.1 at last)

@@ -1,30 +1,17 @@
 use Rattle.worked_examples.proofs.ReturnLaws.{not_saved, not_loaded, loaded}
 use Rattle.worked_examples.proofs.trips.save_and_load.Goals as goal
 
-pub returns-then-saved-ne0 : goal.returns-then-saved-ne0
-returns-then-saved-ne0 c =
+pub returns-in-Err : goal.returns-in-Err
+returns-in-Err c =
     let a = c.args in
-    let s = c.save-answer in
-    let o = c.outcome-saved in
-    let t = c.record_trip in
-    not_saved a.r a.bytes.now _ s.result o.result t.result o.ensures s.ensures c.if-saved-ne0.true _ c.fresh_record.ensures t.ensures
+    not_saved a.r a.bytes.now _ c.in-Err.error c.in-Err.ensures _ (rw c.refused_trip.ensures (rw c.outcome.ensures))
 
-pub returns-then-loaded-ne0 : goal.returns-then-loaded-ne0
-returns-then-loaded-ne0 c =
+pub returns-in-Ok : goal.returns-in-Ok
+returns-in-Ok c =
     let a = c.args in
-    let s = c.save-answer in
-    let o = c.outcome-saved in
-    let l = c.load-l in
-    let u = c.outcome-loaded in
-    let t = c.record_trip-then-loaded-ne0 in
-    not_loaded a.r a.bytes.now _ s.result o.result t.result o.ensures s.ensures c.if-saved-ne0.false l.result u.result u.ensures l.ensures c.if-loaded-ne0.true t.ensures
+    rw c.accepted.ensures (loaded a.r a.bytes.now _ c.in_default.ensures c.in-Ok.read c.in-Ok.ensures)
 
-pub returns : goal.returns
-returns c =
+pub returns-in-Err-load : goal.returns-in-Err-load
+returns-in-Err-load c =
     let a = c.args in
-    let s = c.save-answer in
-    let o = c.outcome-saved in
-    let l = c.load-l in
-    let u = c.outcome-loaded in
-    let t = c.record_trip-2 in
-    loaded a.r a.bytes.now _ s.result o.result t.result o.ensures s.ensures c.if-saved-ne0.false l.result u.result u.ensures l.ensures c.if-loaded-ne0.false _ c.accepted.ensures t.ensures
+    not_loaded a.r a.bytes.now _ c.in_default.ensures c.in-Err-load.error c.in-Err-load.ensures _ (rw c.refused_trip-in-Err-load.ensures (rw c.outcome-in-Err-load.ensures))

@@ -1,0 +1,5 @@
+use Rattle.lines.proofs.NameLaws.{looked_up}
+use Rattle.lines.proofs.instructions.NameTable.number.Goals as goal
+
+pub returns : goal.returns
+returns c = looked_up _ _ _ _ c.args.self.now.all c.find.result c.find.ensures

@@ -1,23 +1,17 @@
 // Words of a memory.
-// Stays (2, 3, 4): the definition `same` compares numbers, so the two types have a function each; a row ends at a place, which `take_while` would count again.
-ghost use Rattle.std.specs.Prelude.{◌≡◌, ◌↔◌, ◌≤◌, ◌<◌, length, replicate, slice_index, EachIndex, IsTrue};
+// Stays (2, 3, 4): images are compared as numbers, by their own contract; a row ends at a place, which `take_while` would count again.
+ghost use Rattle.std.specs.Prelude.{◌≡◌, ◌≤◌, ◌<◌, length, replicate};
 ghost use Rattle.text.specs.Same.{same};
 ghost use Rattle.check_asm.specs.Rows.{row_end};
 
-// Whether every word is this one.
-pub fn are_all(words: &[u32], word: u32) -> bool
-    ensures each { IsTrue result ↔ EachIndex words.now (λ k. slice_index words.now k ≡ word) }
-    ensures is { result ≡ same words.now (replicate (length words.now) word) }
-{
-    words.iter().all(|x| *x == word)
-}
+use files::Cell;
 
-// Whether every word of an image is this one. (The definition compares numbers, so the two types have a function each.)
-pub fn are_all_long(words: &[u64], word: u64) -> bool
-    ensures each { IsTrue result ↔ EachIndex words.now (λ k. slice_index words.now k ≡ word) }
-    ensures is { result ≡ same words.now (replicate (length words.now) word) }
+// Whether every word is this one.
+pub fn are_all<C: Cell>(words: &[C], word: C) -> bool
+    ensures { result ≡ same (C.numbers words.now) (replicate (length words.now) (C.number word)) }
 {
-    words.iter().all(|x| *x == word)
+    let number = word.number();
+    words.iter().all(|x| x.number() == number)
 }
 
 // Whether two images have the same words.

@@ -4,7 +4,7 @@ ghost use Rattle.std.specs.Prelude.{◌≡◌};
 ghost use Rattle.check_asm.specs.Trials.{is_kept};
 
 use crate::listing::print_listed;
-use crate::memories::{are_all, are_all_long};
+use crate::memories::are_all;
 use crate::print::{print_accepted, print_data, print_image, print_refused};
 use assembler::assemble;
 use text::outcomes::{Refusal, done};
@@ -54,5 +54,5 @@ pub fn try_lengths(rt: HostRuntime) {
 fn is_kept(image: &[u64], memory: &[u32]) -> bool
     ensures { result ≡ is_kept image.now memory.now }
 {
-    are_all_long(image, IMAGE_PATTERN) && are_all(memory, DATA_PATTERN)
+    are_all(image, IMAGE_PATTERN) && are_all(memory, DATA_PATTERN)
 }

@@ -79,7 +79,7 @@ fn simulate_step(rt: HostRuntime, i: usize)
     requires { i + 16 < 2 ^ 64 }
 {
     if let Some(budget) = read_budget(rt, i + 15) {
-        simulate(rt, i + 1, budget as u64);
+        simulate(rt, i + 1, budget);
     }
 }
 

@@ -1,12 +1,11 @@
-// The memories and the irq2 list of a folder. A file that can't be read, as is said, counts as empty. (The four differ in the reader, which their contracts name.)
-// Stays (1, 2, 6, 7): the four differ in the reader, which their contracts name; the line N has the first refusal's number, so outcomes are handed on; no heap: a path stands in an array.
+// The memories and the irq2 list of a folder. A file that can't be read, as is said, counts as empty.
+// Stays (1, 2, 7): the line N has the first refusal's number, so outcomes are handed on; one function over the reader was tried in `memories`, and here saves no line.
 ghost use Rattle.files.specs.Sizes.{is_image_length, is_data_length, is_part_length, image_digits, word_digits};
 ghost use Rattle.files.specs.Loaded.{AreCycles};
 ghost use Rattle.files.specs.Loaded.{FileLoaded, CyclesLoaded};
 ghost use Rattle.check_examples.specs.Memories.{MemoriesLoaded};
 
-use crate::open::file_path;
-use console::NAME;
+use crate::open::FilePath;
 use files::{read_data, read_disk, read_image, read_irq2};
 use text::Outcome;
 use text::outcomes::{counted, done};
@@ -36,9 +35,8 @@ pub fn load_memories(
 fn load_image(rt: HostRuntime, folder: &[u8], image: &mut [u64; 4096]) -> Outcome
     ensures { FileLoaded image_digits is_image_length result image.old image.new }
 {
-    let mut path = [0u8; NAME];
-    let n = file_path(rt, folder, b"imemin.txt", &mut path);
-    if let Some(outcome) = memories::load_image(rt, &path[..n], image) {
+    let path = FilePath::of(rt, folder, b"imemin.txt");
+    if let Some(outcome) = memories::load_image(rt, path.bytes(), image) {
         return outcome;
     }
     done(read_image(b"", image))
@@ -48,9 +46,8 @@ fn load_image(rt: HostRuntime, folder: &[u8], image: &mut [u64; 4096]) -> Outcom
 fn load_data(rt: HostRuntime, folder: &[u8], memory: &mut [u32; 4096]) -> Outcome
     ensures { FileLoaded word_digits is_data_length result memory.old memory.new }
 {
-    let mut path = [0u8; NAME];
-    let n = file_path(rt, folder, b"dmemin.txt", &mut path);
-    if let Some(outcome) = memories::load_data(rt, &path[..n], memory) {
+    let path = FilePath::of(rt, folder, b"dmemin.txt");
+    if let Some(outcome) = memories::load_data(rt, path.bytes(), memory) {
         return outcome;
     }
     done(read_data(b"", memory))
@@ -60,9 +57,8 @@ fn load_data(rt: HostRuntime, folder: &[u8], memory: &mut [u32; 4096]) -> Outcom
 fn load_disk(rt: HostRuntime, folder: &[u8], disk: &mut [u32; 16384]) -> Outcome
     ensures { FileLoaded word_digits is_part_length result disk.old disk.new }
 {
-    let mut path = [0u8; NAME];
-    let n = file_path(rt, folder, b"diskin.txt", &mut path);
-    if let Some(outcome) = memories::load_disk(rt, &path[..n], disk) {
+    let path = FilePath::of(rt, folder, b"diskin.txt");
+    if let Some(outcome) = memories::load_disk(rt, path.bytes(), disk) {
         return outcome;
     }
     done(read_disk(b"", disk))
@@ -72,9 +68,8 @@ fn load_disk(rt: HostRuntime, folder: &[u8], disk: &mut [u32; 16384]) -> Outcome
 pub fn load_irq2(rt: HostRuntime, folder: &[u8], cycles: &mut [u64; 4096]) -> Outcome
     ensures { AreCycles result cycles.new × CyclesLoaded result cycles.old cycles.new }
 {
-    let mut path = [0u8; NAME];
-    let n = file_path(rt, folder, b"irq2in.txt", &mut path);
-    if let Some(outcome) = memories::load_irq2(rt, &path[..n], cycles) {
+    let path = FilePath::of(rt, folder, b"irq2in.txt");
+    if let Some(outcome) = memories::load_irq2(rt, path.bytes(), cycles) {
         return outcome;
     }
     counted(read_irq2(b"", cycles))

@@ -1,5 +1,5 @@
 // The command `asm`: a program into its two memory files.
-// Stays (2, 4, 5, 6): no heap, and a name need not be text, so a line is put into a lent array and `PiecesPut` says each byte; `FrontRead` speaks of a buffer and how much of it a file fills; FRONT is this file's length.
+// Stays (2, 4, 5, 6): no heap, and a name need not be text, so a line is put into a lent array and `PiecesPut` says each byte; `FrontAssembled` speaks of a buffer and how much of it a file fills; FRONT is this file's length.
 ghost use Rattle.std.specs.Prelude.{◌+◌, ◌^◌, ◌≤◌, ◌<◌, length};
 ghost use Rattle.console.specs.Line.{PiecesPut};
 ghost use Rattle.commands.specs.Program.{FrontAssembled};

@@ -4,7 +4,7 @@ use Rattle.std.proofs.Common.{◌≡◌, refl, sym, ◌∙◌, Bool, true, false
 use Rattle.std.specs.Prelude.{Some, None}
 use Rattle.std.specs.declared.fs.File.{File}
 use Rattle.console.specs.declared.Writing.{Writing}
-use Rattle.console.specs.Writings.{is_no_file, is_new, through, Begun, Committed}
+use Rattle.console.specs.Writings.{is_no_file, is_new, through, Begun, Ended, Committed}
 
 -- Every `Option` is begun, so that the type says it of each function that begins a file.
 pub option-begun : (w : Option Writing) → Begun w
@@ -14,6 +14,10 @@ option-begun (Some w) e = absurd (false≢true e)
 -- What stands at a path and stays there is begun.
 pub through-begun : (w : Option Writing) (f : Option File) → w ≡ through f → Begun w
 through-begun w f e = option-begun w
+
+-- A file that was brought to the disk is one that was begun.
+pub ended-begun : (w r : Option Writing) → Ended w r → Begun w → Begun r
+ended-begun w r ended begun = option-begun r
 
 module _ (w : Option Writing) where
   pub none_committed : is_no_file w ≡ true → Committed w false

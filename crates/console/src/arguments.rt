@@ -30,10 +30,7 @@ impl Name {
     pub fn of_argument(rt: HostRuntime, i: usize) -> Name {
         let mut room = [0u8; NAME];
         let len = argument(rt, i, &mut room).unwrap_or(0);
-        Name {
-            room: room,
-            len: len,
-        }
+        Name { room, len }
     }
 
     // Its bytes.

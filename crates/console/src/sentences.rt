@@ -1,5 +1,5 @@
 // What is wrong, in words, for each of the numbers of documents 01 and 02.
-// Stays (1, 2, 4, 6): the number is the documents'; `Sentences.sentence` gives no words of a number that has none.
+// Stays (1, 2, 4, 6): the number is the documents'; `Refusals.sentence` gives no words of a number that has none.
 ghost use Rattle.std.specs.Prelude.{◌≡◌, ◌+◌, ◌≤◌, length};
 ghost use Rattle.text.specs.Place.{PutsWithin};
 ghost use Rattle.console.specs.Refusals.{sentence, longest};

@@ -63,7 +63,7 @@ pub fn begin_through(rt: HostRuntime, path: &[u8], opened: io::Result<File>) -> 
 {
     match opened {
         Ok(file) => Some(Writing {
-            file: file,
+            file,
             is_new: false,
         }),
         Err(error) => not_written(rt, path, path, error),
@@ -77,10 +77,7 @@ pub fn begin_new(rt: HostRuntime, path: &[u8]) -> Option<Writing>
     let mut room = [0u8; PATH];
     let n = put_new_path(path, &mut room);
     match create_anew(rt, &room[..n]) {
-        Ok(file) => Some(Writing {
-            file: file,
-            is_new: true,
-        }),
+        Ok(file) => Some(Writing { file, is_new: true }),
         Err(error) => not_written(rt, &room[..n], path, error),
     }
 }

@@ -40,7 +40,7 @@ fn accept(low: u32, io: &mut [u32]) -> Taken
     io[DISKSTATUS] = 1;
     Taken::Accepted(Drive {
         left: COMMAND_CYCLES,
-        sector: sector,
-        buffer: buffer,
+        sector,
+        buffer,
     })
 }

@@ -39,7 +39,7 @@ fn serve(d: Drive, io: &mut [u32], memory: &mut [u32], disk: &mut [u32]) -> Driv
     let left = d.left - 1;
     if left % WORD_CYCLES != 0 {
         return Drive {
-            left: left,
+            left,
             sector: d.sector,
             buffer: d.buffer,
         };
@@ -57,7 +57,7 @@ fn serve(d: Drive, io: &mut [u32], memory: &mut [u32], disk: &mut [u32]) -> Driv
         };
     }
     Drive {
-        left: left,
+        left,
         sector: d.sector,
         buffer: d.buffer,
     }

@@ -37,5 +37,5 @@ fn is_sound_busy(d: Drive, status: u32, command: u32) -> bool
 fn is_command(n: u32) -> bool
     ensures { result ≡ is_read_or_write n }
 {
-    1 <= n && n <= 2
+    matches!(n, 1..=2)
 }

@@ -1,5 +1,5 @@
 // HEX files that arguments name, read into memories.
-// Stays (2, 6): `FrontRead` and `FilledFrom` speak of a buffer and how much of it a file fills; the buffer is an array of this size (no heap).
+// Stays (2, 6): `HexFront` speaks of a buffer and how much of it a file fills; the buffer is an array of this size (no heap).
 ghost use Rattle.std.specs.Prelude.{◌≤◌, ◌<◌, length, is_some};
 ghost use Rattle.hex_commands.specs.Loading.{most_bytes, HexFront, Loaded};
 

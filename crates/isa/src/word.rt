@@ -25,13 +25,13 @@ pub fn encode(f: Fields) -> u64
     requires { Fitting f }
     ensures { result ≡ word_of f }
 {
-    f.op as u64 * 0x100_0000_0000
+    u64::from(f.op) * 0x100_0000_0000
         + f.rd as u64 * 0x10_0000_0000
         + f.rs as u64 * 0x1_0000_0000
         + f.rt as u64 * 0x1000_0000
         + f.rm as u64 * 0x100_0000
-        + f.imm1 as u64 * 0x1000
-        + f.imm2 as u64
+        + u64::from(f.imm1) * 0x1000
+        + u64::from(f.imm2)
 }
 
 // An immediate of 12 bits, sign-extended to 32.

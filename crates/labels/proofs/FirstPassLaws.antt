@@ -12,7 +12,8 @@ use borrow.Author.Tests.{ltb-true, ltb-false}
 use Rattle.text.specs.Lines.{lines, first_line}
 use Rattle.text.proofs.Truth.{and_left, and_right}
 use Rattle.text.proofs.LineLaws.{lines_at_lem}
-use Rattle.symbols.specs.Table.{names_of}
+use Rattle.std.specs.Prelude.{None}
+use Rattle.symbols.specs.Table.{names_of, entry_at}
 use Rattle.symbols.specs.Sound.{Sound, Empty}
 use Rattle.symbols.proofs.NameLaws.{length-names}
 use Rattle.symbols.proofs.EmptyLaws.{empty_sound}
@@ -23,6 +24,7 @@ use Rattle.lines.proofs.FirstLaws.{first_tells}
 use Rattle.labels.specs.Text.{code_count, labels, are_right, label_values}
 use Rattle.labels.specs.Limits.{most_labels}
 use Rattle.labels.specs.Tables.{LabelTable, LabelNoted}
+use Rattle.labels.specs.Found.{LabelsFound}
 use Rattle.labels.proofs.TextLaws.{labels_append, code-append, values_append, right-append, length_values}
 
 -- ---- the first pass
@@ -48,7 +50,13 @@ none_noted source table values e room =
       small = omega arith;
     }
 
--- Where the first pass has come to the end of the text, all are.
+-- What the first pass leaves where the table has no room for one more label, ..
+pub some_found : {source table values : List ℕ} {p n m : ℕ} → Noting source table values p n m → p < length source → length table < entry_at (m + 1) → LabelsFound source (length table) None
+some_found d inside full =
+    let few = d.few in
+    omega arith
+
+-- .. and where it has come to the end of the text: all are noted.
 pub all_found : {source table values : List ℕ} {p n m : ℕ} → Noting source table values p n m → length source ≤ p → LabelTable source (lines source) table values m
 unfolding lines
 all_found {source} {table} {values} {p} {n} {m} d h =

@@ -20,6 +20,7 @@ use Rattle.source.specs.Shapes.{fits, matches, first_shape}
 use Rattle.lines.specs.declared.Form.{Form}
 use Rattle.lines.specs.declared.Form.TheVariants.{Nothing, Label, Code, Labelled, Word, Wrong}
 use Rattle.lines.specs.Line.{directive, shapes, form_at, form_of, is_right, has_label, has_code, part}
+use Rattle.lines.specs.declared.Line.{Line}
 use Rattle.lines.specs.declared.First.{First}
 use Rattle.lines.specs.declared.First.TheVariants.{Whole, Instruction, Neither}
 use Rattle.lines.specs.First.{FirstFormed, tells_label, tells_code}
@@ -190,3 +191,7 @@ pub first_tells : (line : List ℕ) (f : First) → FirstFormed line f
 first_tells line (Whole l) e = let is = l.formed.is ∙ ap form_of e in (ap has_label is, λ r. ap has_code is)
 first_tells line Instruction e = (sym e.0, λ r. sym (e.1 r))
 first_tells line Neither e = (sym e.0, λ r. sym (e.1 r))
+
+-- The whole form.
+pub first-whole : {line : List ℕ} (l : Line) → l.tokens.line.now ≡ line → FirstFormed line (Whole l)
+first-whole l e = e

@@ -94,5 +94,5 @@ code-form Word e = absurd (false≢true e)
 code-form Wrong e = absurd (false≢true e)
 
 -- Its tokens are all there.
-pub code_parts : {line : List ℕ} {n : ℕ} {f : Form} → Formed line n f → has_code f ≡ true → op_at f + 12 ≤ n
-code_parts {line} {n} {f} formed e = let all = (code-form f e).0 in let parts = formed.parts in omega arith
+pub code-room : {line : List ℕ} {n : ℕ} {f : Form} → Formed line n f → has_code f ≡ true → op_at f + 12 ≤ n
+code-room {line} {n} {f} formed e = let all = (code-form f e).0 in let parts = formed.parts in omega arith

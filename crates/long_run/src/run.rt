@@ -70,7 +70,7 @@ pub fn run_on(
         let made = budget - left;
         if !(is_sent & is_full) {
             return RunEnd {
-                state: state,
+                state,
                 cycles: made,
                 written: is_sent,
             };

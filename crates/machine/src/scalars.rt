@@ -53,10 +53,10 @@ fn core_of(status: u32, handler: u32, pc: u32, age: u64, drive: Drive) -> Core
         buffer: drive.buffer,
     };
     Core {
-        status: status,
-        handler: handler,
-        pc: pc,
-        age: age,
+        status,
+        handler,
+        pc,
+        age,
         drive: d,
     }
 }

@@ -11,7 +11,7 @@ use lib.ListN.{length}
 use borrow.Author.Tests.{leb-true, le-leb, lt-leb}
 use Rattle.text.specs.Numerals.{all_digits, value, numeral}
 use Rattle.text.proofs.Truth.{and_left, and_right}
-use Rattle.text.proofs.DigitLaws.{number_yes, number_no, number-value, value_lt}
+use Rattle.text.proofs.DigitLaws.{value_lt}
 use Rattle.memories.specs.Budget.{budget_of, BudgetRead}
 
 module _ (word : List ℕ) where
@@ -25,17 +25,9 @@ module _ (word : List ℕ) where
   budget_long h = rw (le-leb 1 (length word) (omega arith), lt-leb (length word) 13 h)
 
   -- Of the others the numeral decides.
-  module _ (some : 1 ≤ length word) (few : length word ≤ 13) where
-    pub budget_is : (n : ℕ) → numeral 10 word ≡ Some n → Some n ≡ budget_of word
-    unfolding budget_of
-    budget_is n is =
-        let good = number_yes (all_digits 10 word) (value 10 word) n is in
-        let n-is = number-value (all_digits 10 word) (value 10 word) n is in
-        rw (le-leb 1 (length word) some, le-leb (length word) 13 few, good, n-is)
-
-    pub budget_no : numeral 10 word ≡ None → None ≡ budget_of word
-    unfolding budget_of
-    budget_no is = rw (le-leb 1 (length word) some, le-leb (length word) 13 few, number_no (all_digits 10 word) (value 10 word) is)
+  pub budget_is : 1 ≤ length word → length word ≤ 13 → numeral 10 word ≡ budget_of word
+  unfolding budget_of
+  budget_is some few = rw (le-leb 1 (length word) some, le-leb (length word) 13 few)
 
   -- The word need not be named.
   pub budget_read : {r : Option ℕ} → r ≡ budget_of word → BudgetRead r

@@ -1,5 +1,5 @@
 -- What reading files that the operating system hands over leaves. Assumes nothing.
-use Prim.Native.Nat.{ℕ, ◌+◌, ◌%◌, ◌≤◌, ◌<◌}
+use Prim.Native.Nat.{ℕ, ◌+◌, ◌*◌, ◌%◌, ◌≤◌, ◌<◌}
 use mathlib.Core.Path.{◌≡◌, refl, sym, ◌∙◌, ap}
 use mathlib.Core.Bool.{Bool, true, false, cond, ◌&&◌}
 use mathlib.Core.List.{List, [], ◌∷◌}
@@ -14,7 +14,7 @@ use Rattle.text.specs.Lines.{lines}
 use Rattle.text.proofs.QuestionLaws.{first_yes}
 use Rattle.text.proofs.Truth.{and_right}
 use Rattle.files.specs.declared.CycleError.{CycleError}
-use Rattle.files.specs.Sizes.{sector_words, disk_words, is_part_length}
+use Rattle.files.specs.Sizes.{sector_words, disk_words, image_digits, word_digits, frame_digits, is_image_length, is_data_length, is_part_length, is_frame_length}
 use Rattle.files.specs.MemoryFile.{is_word, word_questions, lines_outcome, read_outcome}
 use Rattle.files.specs.Answers.{cycles_read_outcome}
 use Rattle.files.specs.Loaded.{FileLoaded}
@@ -22,6 +22,8 @@ use Rattle.files.specs.Promises.{Irq2Read}
 use Rattle.files.proofs.CycleLaws.{are_cycles}
 use Rattle.files.proofs.Irq2CutLaws.{cut-cycles}
 use Rattle.files.proofs.LoadedLaws.{counted}
+use Rattle.files.proofs.FrontLaws.{file_read}
+use Rattle.memories.specs.Loading.{most_text, FromFront, LoadedFile, LoadedFront}
 use Rattle.memories.specs.Cycles.{CyclesFile, FrontCycles, LoadedCycles, outcome_count, RiseIn}
 
 -- ---- a memory file
@@ -42,10 +44,6 @@ read-accepted k is_right n text good =
     let right = first_yes 1 0 (is_right n) _ (omega arith) good in
     rw right.0 (lines-accepted k n 0 (lines text) right.1)
 
--- A part of the disk has at most as many words as the disk.
-pub part_most : (n : ℕ) → is_part_length n ≡ true → n ≤ disk_words
-part_most n e = leb-true n disk_words (and_right (eqb (n % sector_words) 0 && leb sector_words n) (leb n disk_words) e)
-
 -- A file that `accept` accepts.
 module _ {k : ℕ} {is_right : ℕ → Bool} {before after : List ℕ} {t : Outcome} (file : FileLoaded k is_right t before after) where
   pub loaded : (n : ℕ) → Some n ≡ outcome_count t → FileLoaded k is_right (accepted 0) before after
@@ -57,6 +55,35 @@ module _ {k : ℕ} {is_right : ℕ → Bool} {before after : List ℕ} {t : Outc
           let outcome : t ≡ accepted 0 = file.outcome ∙ read-accepted k is_right (length before) file.text none in
           record { text = file.text; outcome = sym outcome ∙ file.outcome; words = rw outcome at file.words }
       go false e same = cc
+
+  -- One that it refuses changed nothing.
+  pub refused : None ≡ outcome_count t → after ≡ before
+  refused is = go (eqb t.number 0) refl is
+    where
+      go : (b : Bool) → eqb t.number 0 ≡ b → None ≡ cond b (Some t.count) None → after ≡ before
+      go true e same = cc
+      go false e same = file.words ∙ rw e
+
+-- A file whose front was read was read from some text.
+pub from_front : {k : ℕ} {is_right : ℕ → Bool} {before after : List ℕ} {t : Outcome} → FromFront k is_right t before after → FileLoaded k is_right t before after
+from_front front = file_read front.buffer front.n front.within front.read
+
+pub loaded_file : (k : ℕ) (is_right : ℕ → Bool) (before after : List ℕ) (r : Option Outcome) → LoadedFront k is_right r before after → LoadedFile k is_right r before after
+loaded_file k is_right before after (Some t) front = from_front front
+loaded_file k is_right before after None same = same
+
+-- The memories' files are no longer than the longest.
+pub few_image : (n : ℕ) → is_image_length n ≡ true → n * (image_digits + 1) ≤ most_text
+few_image n e = omega (arith, eqb-true n 4096 e)
+
+pub few_data : (n : ℕ) → is_data_length n ≡ true → n * (word_digits + 1) ≤ most_text
+few_data n e = omega (arith, eqb-true n 4096 e)
+
+pub few_part : (n : ℕ) → is_part_length n ≡ true → n * (word_digits + 1) ≤ most_text
+few_part n e = omega (arith, leb-true n disk_words (and_right (eqb (n % sector_words) 0 && leb sector_words n) (leb n disk_words) e))
+
+pub few_frame : (n : ℕ) → is_frame_length n ≡ true → n * (frame_digits + 1) ≤ most_text
+few_frame n e = omega (arith, eqb-true n 65536 e)
 
 -- ---- the irq2 file
 

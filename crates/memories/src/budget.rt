@@ -9,7 +9,7 @@ use text::digits::DigitTable;
 const DIGITS: usize = 13;
 
 // The number of cycles that an argument gives, in 1 to 13 decimal digits; none where it gives none, as is said.
-pub fn read_budget(rt: HostRuntime, i: usize) -> Option<usize>
+pub fn read_budget(rt: HostRuntime, i: usize) -> Option<u64>
     ensures { BudgetRead result }
 {
     let name = Name::of_argument(rt, i);
@@ -25,14 +25,11 @@ pub fn read_budget(rt: HostRuntime, i: usize) -> Option<usize>
 }
 
 // The number of cycles that a word gives, if it gives one.
-fn budget_of(word: &[u8]) -> Option<usize>
+fn budget_of(word: &[u8]) -> Option<u64>
     ensures { result ≡ budget_of word.now }
 {
     if word.len() == 0 || DIGITS < word.len() {
         return None;
     }
-    match DigitTable::new().read_digits(word, 10) {
-        Some(cycles) => Some(cycles as usize),
-        None => None,
-    }
+    DigitTable::new().read_digits(word, 10)
 }

@@ -47,17 +47,17 @@ fn put_taken(line: &[u8], letter: u8, out: &mut [u8], at: usize) -> usize
     requires { at + length line.now ≤ length out.old }
     ensures { PutsWithin (length line.now) out.old at (line_with letter line.now) result out.new }
 {
-    if line.len() == 0 {
-        return at;
+    match line {
+        [] => at,
+        [first, ..] if *first != letter => at,
+        [_] => {
+            out[at] = LF;
+            at + 1
+        }
+        [_, _, rest @ ..] => {
+            let end = put_bytes(out, at, rest);
+            out[end] = LF;
+            end + 1
+        }
     }
-    if line[0] != letter {
-        return at;
-    }
-    if line.len() == 1 {
-        out[at] = LF;
-        return at + 1;
-    }
-    let end = put_bytes(out, at, &line[2..]);
-    out[end] = LF;
-    end + 1
 }

@@ -34,7 +34,7 @@ fn resume_files(rt: HostRuntime, first: usize) -> Option<()>
     let mut cycles = [0u64; 16384];
     load_image_at(rt, first, &mut image)?;
     let n = load_irq2_at(rt, first + 5, &mut cycles)?;
-    resume_image(rt, first, &image, &cycles[..n], budget as u64)
+    resume_image(rt, first, &image, &cycles[..n], budget)
 }
 
 // Whether one of the files that are written has the name of another file: the four after the instruction file, which is read, and the log; the

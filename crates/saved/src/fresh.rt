@@ -20,10 +20,10 @@ pub fn fresh_record() -> Record
         handler: 0,
         pc: 0,
         age: 0,
-        drive: drive,
+        drive,
     };
     Record {
-        core: core,
+        core,
         regs: [0; 13],
         io: [0; 23],
     }

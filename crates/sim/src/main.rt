@@ -25,7 +25,7 @@ fn main(rt: HostRuntime) {
 // Runs with the budget of the fifteenth argument.
 fn simulate_budget(rt: HostRuntime) {
     if let Some(budget) = read_budget(rt, 15) {
-        simulate_names(rt, budget as u64);
+        simulate_names(rt, budget);
     }
 }
 

@@ -6,14 +6,15 @@ use mathlib.Core.List.{List, [], ◌∷◌, ◌++◌}
 use native.Mathlib.Nat.{le_trans, pow-le-pow_right}
 use native.Mathlib.Omega.{arith}
 use lib.Dec.{ltb, leb}
+use borrow.Author.Tests.{lt-leb, le-leb}
 use lib.ListN.{length, take, drop, length-drop, take-append-drop}
 use lib.Seq.{take_all}
 use Rattle.std.specs.Prelude.{Option, Some, None}
 use Rattle.text.specs.Bytes.{bytes}
-use Rattle.text.specs.Numerals.{digit_value, all_digits}
+use Rattle.text.specs.Numerals.{digit_value, all_digits, numeral}
 use Rattle.source.specs.declared.Number.{Number}
 use Rattle.source.specs.declared.Prefix.{Prefix}
-use Rattle.source.specs.declared.Number.TheVariants.{Decimal, Unsigned}
+use Rattle.source.specs.declared.Number.TheVariants.{Decimal, Minus, Unsigned}
 use Rattle.source.specs.Numbers.{digits_up_to, written, decimal_digits, decimal_number, prefix, prefix_of, unsigned, number, is_number}
 use Rattle.source.specs.Names.{is_name}
 use Rattle.text.specs.Same.{same}
@@ -28,9 +29,31 @@ module _ (base most : ℕ) (s : List ℕ) where
 
 -- ---- the ways to write a number
 
+-- ---- so many digits
+
+module _ (base most : ℕ) (s : List ℕ) where
+  pub no_digits : length s ≡ 0 → None ≡ digits_up_to base most s
+  no_digits e = rw (lt-leb 1 (length s) (omega arith))
+
+  pub many-digits : 1 ≤ length s → most < length s → None ≡ digits_up_to base most s
+  many-digits some h = rw (le-leb 1 (length s) some, lt-leb (length s) most h)
+
+  pub few-digits : 1 ≤ length s → length s ≤ most → (r : Option ℕ) → r ≡ numeral base s → r ≡ digits_up_to base most s
+  few-digits some h r e = rw (le-leb 1 (length s) some, le-leb (length s) most h) e
+
+-- ---- the ways to write a number
+
 -- The rest of a token after its first bytes.
 pub rest_of : (start : ℕ) (t : List ℕ) → take (length t - start) (drop start t) ≡ drop start t
 rest_of start t = take_all (length t - start) (drop start t) (rw length-drop (omega arith))
+
+-- A decimal number, with its sign or without.
+module _ (t : List ℕ) (a : Bool) (minus : a ≡ same (take 1 t) (bytes "-")) (n : Option ℕ) (r : Option Number) where
+  pub is-minus : a ≡ true → n ≡ digits_up_to 10 decimal_digits (take (length t - 1) (drop 1 t)) → r ≡ written Minus n → r ≡ decimal_number t
+  is-minus e q p = rw (← minus, e) (p ∙ ap (written Minus) (q ∙ ap (digits_up_to 10 decimal_digits) (rest_of 1 t)))
+
+  pub is-decimal : a ≡ false → n ≡ digits_up_to 10 decimal_digits t → r ≡ written Decimal n → r ≡ decimal_number t
+  is-decimal e q p = rw (← minus, e) (p ∙ ap (written Decimal) q)
 
 -- A prefix has two bytes, and its digits fit 64 bits.
 pub record PrefixFits (p : Prefix) (t : List ℕ) : Type 0 where

@@ -155,3 +155,11 @@ token-there a b = record { from = a.from; order = b.after; within = b.within; is
 
 pub joined_pair : (l : List ℕ) (i : ℕ) → i + 1 < length l → is_joined (get_or l i 0) (get_or l (i + 1) 0 ∷ []) ≡ is_joined (get_or l i 0) (drop (i + 1) l)
 joined_pair l i h = rw (drop-cons l (i + 1) 0 h)
+
+-- ---- whether two bytes are of one token
+
+pub joined-at-end : (l : List ℕ) (i b : ℕ) → i + 1 ≡ length l → false ≡ is_joined b (drop (i + 1) l)
+joined-at-end l i b e = sym (ap (is_joined b) (drop_of_length-le l {i = i + 1} (omega arith)))
+
+pub joined_following : (l : List ℕ) (i b : ℕ) → i + 1 < length l → (r : Bool) → r ≡ closes b → r ≡ false → (u : Bool) → u ≡ follows (get_or l (i + 1) 0) → u ≡ is_joined b (drop (i + 1) l)
+joined_following l i b h r is e u q = rw (drop-cons l (i + 1) 0 h, ← is, e) q

@@ -136,7 +136,7 @@ fn hundred_cycles(digits: u64, n: usize, held: u64, more: u64) -> Prefix
         lowered: 0,
         count: n as u64 + 2,
         held: held * 0x1_0000 + BLANK,
-        more: more,
+        more,
     }
 }
 

@@ -17,7 +17,7 @@ pub enum Start {
     Saved,
 }
 
-// How the run starts whose saved record an argument names.
+// How the run starts whose saved record an argument names. (What a file system has can't be said in a contract.)
 pub fn start_at(rt: HostRuntime, record: usize) -> Start {
     if is_missing_at(rt, record) {
         Start::Fresh

@@ -33,7 +33,9 @@ impl Prefix {
     ghost use Rattle.trace.specs.ValidPrefixes.{ValidFor};
 
     // A prefix that is valid for no cycle.
-    pub fn none() -> Prefix {
+    pub fn none() -> Prefix
+        ensures { result.until ≡ 0 }
+    {
         Prefix {
             first: 0,
             until: 0,

@@ -1,5 +1,5 @@
 // The conversions, each of the file that an argument names into one that the next names. A file that is refused writes nothing.
-ghost use Rattle.std.specs.Prelude.{◌+◌, ◌^◌, ◌<◌};
+ghost use Rattle.std.specs.Prelude.{◌+◌, ◌*◌, ◌^◌, ◌<◌};
 
 use crate::Conversion;
 use crate::load::load_hex_at;
@@ -18,34 +18,30 @@ pub fn convert(rt: HostRuntime, conversion: Option<Conversion>, from: usize)
         return;
     }
     match conversion {
-        Some(Conversion::HexToData) => hand_over(
+        Some(Conversion::HexToData) => hand_over::<DATA_WORDS, _, _>(
             rt,
             from,
-            &mut [0u32; DATA_WORDS],
             |memory| load_hex_at(rt, from, memory),
             |memory| write_new_data(rt, from + 1, memory),
             b" is written: 4096 words\n",
         ),
-        Some(Conversion::HexToDisk) => hand_over(
+        Some(Conversion::HexToDisk) => hand_over::<DISK_WORDS, _, _>(
             rt,
             from,
-            &mut [0u32; DISK_WORDS],
             |disk| load_hex_at(rt, from, disk),
             |disk| write_new_disk(rt, from + 1, disk),
             b" is written: 16384 words\n",
         ),
-        Some(Conversion::DataToHex) => hand_over(
+        Some(Conversion::DataToHex) => hand_over::<DATA_WORDS, _, _>(
             rt,
             from,
-            &mut [0u32; DATA_WORDS],
             |memory| load_data_at(rt, from, memory),
             |memory| write_new_hex_data(rt, from + 1, memory),
             b" is written: 45068 bytes\n",
         ),
-        Some(Conversion::DiskToHex) => hand_over(
+        Some(Conversion::DiskToHex) => hand_over::<DISK_WORDS, _, _>(
             rt,
             from,
-            &mut [0u32; DISK_WORDS],
             |disk| load_disk_at(rt, from, disk),
             |disk| write_new_hex_disk(rt, from + 1, disk),
             b" is written: 180236 bytes\n",
@@ -54,11 +50,10 @@ pub fn convert(rt: HostRuntime, conversion: Option<Conversion>, from: usize)
     }
 }
 
-// Loads a memory from a file and, where that is accepted, writes it to the next, and says words of that file where it is in its place then.
-fn hand_over<L, W>(
+// Loads a memory of so many words from a file and, where that is accepted, writes it to the next, and says words of that file where it is in its place then.
+fn hand_over<const WORDS: usize, L, W>(
     rt: HostRuntime,
     from: usize,
-    memory: &mut [u32],
     load: L,
     write: W,
     words: &[u8],
@@ -67,13 +62,15 @@ where
     L: FnOnce(&mut [u32]) -> Option<()>,
     W: FnOnce(&[u32]) -> Option<Writing>,
     requires bound { from + 2 < 2 ^ 64 }
+    requires fits { WORDS * 4 < 2 ^ 63 }
     requires loads { L.IsAlwaysCallable load }
     requires writes { W.IsAlwaysCallable write }
 {
-    if load(memory).is_none() {
+    let mut memory = [0u32; WORDS];
+    if load(&mut memory).is_none() {
         return;
     }
-    if commit_at(rt, from + 1, write(memory)) {
+    if commit_at(rt, from + 1, write(&memory)) {
         say_at(rt, from + 1, words);
     }
 }

@@ -150,6 +150,10 @@ module _ (t : List ℕ) where
   unfolding all_names
   none_of_all e = neither (is_among operation_names t) (is_among register_names t) (sym (among_both operation_names register_names t) ∙ e)
 
+  -- So an unknown name is no register.
+  pub unknown_register : is_among all_names t ≡ false → is_among register_names t ≡ false
+  unknown_register e = (none_of_all e).1
+
 -- ---- all names of an instruction
 
 pub operation_below : {t : List ℕ} {n : ℕ} → IsNumber operation_names t n → n < 22

@@ -1,35 +1,51 @@
 // The forms of lines.
 // Stays (1, 2): the definitions `is_right`, `has_label`, `has_code` and `has_word` are of a form, the wrong one too, and theorems of labels and statements speak of them.
-ghost use Rattle.std.specs.Prelude.{◌≡◌, cond, ◌≤◌, length};
+ghost use Rattle.std.specs.Prelude.{◌≡◌, true, cond, ◌≤◌, length};
+ghost use Rattle.source.specs.Spans.{Split};
 ghost use Rattle.source.specs.Shapes.{parsed};
-ghost use Rattle.lines.specs.Line.{directive as directive_of, shapes, form_at, is_right, has_label, has_code, has_word};
+ghost use Rattle.lines.specs.Line.{directive as directive_of, shapes, form_of, form_at, is_right, has_label, has_code, has_word};
 ghost use Rattle.lines.specs.Parts.{part_count, most_places};
 ghost use Rattle.lines.specs.First.{FirstFormed};
 
 use crate::{First, Form, Line};
 use source::Span;
 use source::bytes::{MOST_BYTES, are_right_bytes};
-use source::tokens::{Tokens, next_token, split};
+use source::tokens::{Tokens, next_token, put_spans};
 use text::digits::DigitTable;
 
 // Places for as many tokens as a line can have, and one more.
 pub const PLACES: usize = 14;
 
-// A line with its form; the places of its tokens are put into `spans`.
+// A line with its form; the places of its tokens are put into `spans`. (Inlined: a line that is handed back is copied.)
+#[inline(always)]
 pub fn line_form<'a>(line: &'a [u8], spans: &'a mut [Span; PLACES], values: &DigitTable) -> Line<'a>
     ensures { result.tokens.line.now ≡ line.now }
 {
-    if !are_right_bytes(line) {
+    let (count, form) = split_form(line, spans, values);
+    if is_right(form) {
         return Line {
-            tokens: Tokens::none(line),
-            form: Form::Wrong,
+            tokens: Tokens { line, spans, count },
+            form,
         };
     }
-    let tokens = split(line, spans);
     Line {
-        tokens,
-        form: shape_form(&tokens, values),
+        tokens: Tokens::none(line),
+        form,
     }
+}
+
+// The form of a line, and where that is right how many tokens it has, whose places are put into `spans`.
+fn split_form(line: &[u8], spans: &mut [Span; PLACES], values: &DigitTable) -> (usize, Form)
+    ensures form { result.1 ≡ form_of line.now }
+    ensures split { is_right result.1 ≡ true → Split line.now spans.new result.0 }
+    ensures parts { part_count result.1 ≤ result.0 }
+{
+    if !are_right_bytes(line) {
+        return (0, Form::Wrong);
+    }
+    let count = put_spans(line, spans);
+    let tokens = Tokens { line, spans, count };
+    (count, shape_form(&tokens, values))
 }
 
 // What the length and the first token tell of a line. Where the first token ends in a colon, the whole line is read.

@@ -15,8 +15,8 @@ use isa::word::encode;
 use symbols::{Table, add_tokens};
 
 // The operations, then the registers.
-const NAMES: &[u8] =
-    b"add sub mac and or xor sll sra srl beq bne blt bgt ble bge jal lw sw reti in out halt $zero $imm1 $imm2 $v0 $a0 $a1 $a2 $t0 $t1 $t2 $s0 $s1 $s2 $gp $sp $ra";
+pub const NAMES: [u8; 155] =
+    *b"add sub mac and or xor sll sra srl beq bne blt bgt ble bge jal lw sw reti in out halt $zero $imm1 $imm2 $v0 $a0 $a1 $a2 $t0 $t1 $t2 $s0 $s1 $s2 $gp $sp $ra";
 
 const OPERATIONS: usize = 22;
 
@@ -37,19 +37,19 @@ impl<'a> NameTable<'a> {
         requires room { 8192 + 4 * 155 ≤ length words.old }
     {
         NameTable {
-            table: add_tokens(NAMES, words),
+            table: add_tokens(&NAMES, words),
         }
     }
 
     // The number of a name among all, if it is one of them.
-    fn number(&self, t: &[u8]) -> Option<usize>
+    pub fn number(&self, t: &[u8]) -> Option<usize>
         ensures { LookedUp all_names t.now result }
     {
         self.table.find(self.table.count, t)
     }
 
     // The number of an operation.
-    fn operation(&self, t: &[u8]) -> Option<usize>
+    pub fn operation(&self, t: &[u8]) -> Option<usize>
         ensures { LookedUp operation_names t.now result }
     {
         let n = self.number(t)?;
@@ -57,14 +57,13 @@ impl<'a> NameTable<'a> {
     }
 
     // The number of a register.
-    fn register(&self, t: &[u8]) -> Option<usize>
+    #[tactic(auto, using(crate::proofs::NameLaws::no_register, crate::proofs::NameLaws::unknown_register))]
+    pub fn register(&self, t: &[u8]) -> Option<usize>
         ensures { LookedUp register_names t.now result }
     {
-        let place = self.number(t)?;
-        if OPERATIONS <= place {
-            Some(place - OPERATIONS)
-        } else {
-            None
+        match self.number(t) {
+            Some(place) if OPERATIONS <= place => Some(place - OPERATIONS),
+            _ => None,
         }
     }
 }

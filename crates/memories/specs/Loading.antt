@@ -19,6 +19,12 @@ abbrev pub Loaded : ℕ → (ℕ → Bool) → Option Unit → List ℕ → List
 Loaded k is_right (Some _) before after = FileLoaded k is_right (accepted 0) before after
 Loaded k is_right None before after = after ≡ before
 
+-- A loader loads memories whose words have these numbers from files of k digits a line, `is_right` asking the memory's length.
+pub record Loads (k : ℕ) (is_right : ℕ → Bool) {F C : Type 0} (numbers : List C → List ℕ)
+    (g : Once F (Bor (List ℕ) × (MutBor (List C) × Unit {0})) (Option Outcome × (MutBor (List C) × Unit {0}))) (load : F) : Type 0 where
+  pub loads : (path : Bor (List ℕ)) (memory left : MutBor (List C)) (answer : Option Outcome) → g.post load (path, (memory, tt)) (answer, (left, tt))
+      → LoadedFile k is_right answer (numbers memory.now) (numbers left.now)
+
 -- The most bytes that a memory file has: the frame's, 65,536 lines of 2 digits.
 abbrev pub most_text : ℕ
 most_text = 196608

@@ -11,7 +11,8 @@ use text::Outcome;
 use text::outcomes::counted;
 
 // Reads an irq2 file of up to 16,384 cycles, or as many as there is room for, and returns the outcome; none where it can't be read, as is said. They
-// stand at the front then, and rise.
+// stand at the front then, and rise. (Not inlined, so that the text has room on the stack only while it is read.)
+#[inline(never)]
 pub fn load_irq2(rt: HostRuntime, path: &[u8], cycles: &mut [u64]) -> Option<Outcome>
     ensures { LoadedCycles result cycles.old cycles.new }
 {

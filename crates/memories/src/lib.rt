@@ -19,7 +19,9 @@ pub use front::read_front_at;
 pub use given_names::{clashes_with_one, is_device_at, names_clash};
 pub use load::{load_data, load_disk, load_frame, load_image};
 pub use load_at::{load_data_at, load_disk_at, load_frame_at, load_image_at};
-pub use named::{accept_at, begin_at, commit_at, drop_at, end_at, is_missing_at, more_at, say_at};
+pub use named::{
+    accept_at, begin_at, commit_at, drop_at, end_at, is_missing_at, more_at, refuse_at, say_at,
+};
 pub use new_files::{
     write_new_bytes, write_new_data, write_new_disk, write_new_frame, write_new_image,
     write_new_text,

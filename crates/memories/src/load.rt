@@ -43,7 +43,8 @@ pub fn load_frame(rt: HostRuntime, path: &[u8], frame: &mut [u8]) -> Option<Outc
     load(rt, path, frame, |text, words| read_frame(text, words))
 }
 
-// Reads a file of the memory that a reader reads, in the same way.
+// Reads a file of the memory that a reader reads, in the same way. (Not inlined, so that the text has room on the stack only while it is read.)
+#[inline(never)]
 pub fn load<C: Cell, R>(rt: HostRuntime, path: &[u8], memory: &mut [C], read: R) -> Option<Outcome>
 where
     R: FnOnce(&[u8], &mut [C]) -> Result<(), FileError>,

@@ -25,7 +25,9 @@ pub fn resume(rt: HostRuntime, first: usize)
     let _ = resume_files(rt, first);
 }
 
-// The same with names that do not clash; none where it is not done, as is said.
+// The same with names that do not clash; none where it is not done, as is said. (Not inlined, so that the memories have room on the stack only in a
+// resumed run.)
+#[inline(never)]
 fn resume_files(rt: HostRuntime, first: usize) -> Option<()>
     requires { first + 8 < 2 ^ 64 }
 {

@@ -11,7 +11,7 @@ mod saving;
 mod sound;
 
 pub use fresh::fresh_record;
-pub use loading::load;
+pub use loading::{load, loaded_outcome, loaded_record};
 pub use saving::save;
 pub use sound::{is_possible, is_sound};
 

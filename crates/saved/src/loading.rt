@@ -1,13 +1,17 @@
 // A record read.
 // Stays (2, 5, 7): edition 2 asks the bits at the end, edition 1 whether the disk is busy, in an order of questions each; the length tells which.
 ghost use Rattle.std.specs.Prelude.{◌≡◌, length};
+ghost use Rattle.saved.specs.Answers.{loaded_outcome, loaded_record};
 ghost use Rattle.saved.specs.Promises.{Loading};
 
 use crate::LoadError;
 use crate::fields::{record_of, record_one};
+use crate::fresh::fresh_record;
 use crate::layout::{BYTES, BYTES_ONE, EDITION, EDITION_ONE, LAST, WIDTHS, WIDTHS_ONE};
 use crate::sound::{is_possible, is_sound};
 use machine::Record;
+use text::Outcome;
+use text::outcomes::{Refusal, accepted};
 
 // Reads a record: 94 bytes of edition 2, or 91 of edition 1 with a free disk.
 pub fn load(bytes: &[u8]) -> Result<Record, LoadError>
@@ -58,4 +62,24 @@ fn load_one(bytes: &[u8]) -> Result<Record, LoadError>
         return Err(LoadError::Busy);
     }
     Ok(state)
+}
+
+// The record to go on with: the one that was read, or the fresh one where it is refused.
+pub fn loaded_record(answer: Result<Record, LoadError>) -> Record
+    ensures { result ≡ loaded_record answer }
+{
+    match answer {
+        Ok(state) => state,
+        Err(_) => fresh_record(),
+    }
+}
+
+// What reading a record answers, in numbers.
+pub fn loaded_outcome(answer: Result<Record, LoadError>) -> Outcome
+    ensures { result ≡ loaded_outcome answer }
+{
+    match answer {
+        Ok(_) => accepted(0),
+        Err(error) => error.outcome(),
+    }
 }

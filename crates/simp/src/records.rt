@@ -3,8 +3,8 @@ ghost use Rattle.simp.specs.Records.{Saves, Loads};
 
 use crate::WRONG_LENGTH;
 use crate::numbers::{RECORD_NUMBERS, put_numbers, record_of};
-use saved::{fresh_record, load, save};
-use text::outcomes::{Refusal, done};
+use saved::{load, loaded_outcome, loaded_record, save};
+use text::outcomes::done;
 
 // Saves the record of 40 numbers in 94 bytes.
 pub fn simp_save(numbers: &[u64], bytes: &mut [u8]) -> u32
@@ -23,14 +23,7 @@ pub fn simp_load(bytes: &[u8], numbers: &mut [u64]) -> u32
     if numbers.len() != RECORD_NUMBERS {
         return WRONG_LENGTH;
     }
-    match load(bytes) {
-        Ok(state) => {
-            put_numbers(state, numbers);
-            0
-        }
-        Err(error) => {
-            put_numbers(fresh_record(), numbers);
-            error.outcome().number
-        }
-    }
+    let answer = load(bytes);
+    put_numbers(loaded_record(answer), numbers);
+    loaded_outcome(answer).number
 }

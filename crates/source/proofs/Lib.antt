@@ -1,4 +1,6 @@
 -- Laws of assembly text.
+pub mod AllLaws
+pub mod NameLaws
 pub mod NumberLaws
 pub mod TokenLaws
 pub mod SplitLaws

@@ -21,20 +21,24 @@ pub fn split<'a>(line: &'a [u8], spans: &'a mut [Span]) -> Tokens<'a>
     ensures line { result.line.now ≡ line.now }
     ensures room { length result.spans.now ≡ length spans.old }
 {
+    let count = put_spans(line, spans);
+    Tokens { line, spans, count }
+}
+
+// Puts the place of each token of a line into `spans`, as many as it has room for, and returns how many.
+pub fn put_spans(line: &[u8], spans: &mut [Span]) -> usize
+    ensures split { Split line.now spans.new result }
+    ensures room { length spans.new ≡ length spans.old }
+{
     let mut p = 0;
     for k in 0..spans.len() {
         let Some(s) = next_token(line, p) else {
-            return Tokens {
-                line,
-                spans,
-                count: k,
-            };
+            return k;
         };
         spans[k] = s;
         p = s.end;
     }
-    let count = spans.len();
-    Tokens { line, spans, count }
+    spans.len()
 }
 
 impl<'a> Tokens<'a> {

@@ -54,25 +54,15 @@ impl<'a> Table<'a> {
         requires { self.now.count < 2 ^ 32 }
         ensures { result ≡ leb (entry_at (self.now.count + 1)) (length self.now.words.now) }
     {
-        ENTRIES + ENTRY * (self.count + 1) <= self.words.len()
+        has_room(self.words, self.count)
     }
 
-    // Looks a name up among the first `below` entries: the number of one that has it, if one has. A chain is links in the lent words (no heap), so it is
-    // walked by a `while`.
+    // Looks a name up among the first `below` entries: the number of one that has it, if one has.
     pub fn find(&self, below: usize, t: &[u8]) -> Option<usize>
         requires { below ≤ self.now.count }
         ensures { Found self.now.source.now self.now.words.now below t.now result }
     {
-        let key = key_of(t);
-        let mut link = self.words[key as usize % HEADS] as usize;
-        while link != 0 {
-            let k = link - 1;
-            if self.is_entry(below, k, key, t) {
-                return Some(k);
-            }
-            link = self.words[ENTRIES + ENTRY * k] as usize;
-        }
-        None
+        find(self.source, self.words, self.count, below, t)
     }
 
     // True only where the name t, of which this is the key, is among the names: it looks at the last entry of its slot alone, to answer sooner.
@@ -81,25 +71,7 @@ impl<'a> Table<'a> {
         ensures { result ≡ true → is_among (names_of self.now.source.now self.now.words.now self.now.count) t.now ≡ true }
     {
         let link = self.words[HEADS + key as usize / HEADS % RECENTS] as usize;
-        0 < link && self.is_entry(self.count, link - 1, key, t)
-    }
-
-    // Whether entry k is one of the first `below` and has the name t, of which this is the key. Where the keys differ, the bytes are not compared.
-    fn is_entry(&self, below: usize, k: usize, key: u32, t: &[u8]) -> bool
-        requires count { k < self.now.count }
-        requires key { key ≡ key_of t.now }
-        ensures { result ≡ (ltb k below && same t.now (name_at self.now.source.now self.now.words.now k)) }
-    {
-        let at = ENTRIES + ENTRY * k;
-        if self.words[at + 1] != key {
-            return false;
-        }
-        if k < below {
-            let start = self.words[at + 2] as usize;
-            let end = self.words[at + 3] as usize;
-            return are_same(t, &self.source[start..end]);
-        }
-        false
+        0 < link && is_entry(self.source, self.words, self.count, link - 1, key, t)
     }
 
     // Adds one more entry, for the name from start to end.
@@ -121,6 +93,52 @@ impl<'a> Table<'a> {
         put_entry(self.source, self.words, count, start, end, key, recent);
         self.count = count + 1;
     }
+}
+
+// Whether words that hold so many entries have room for one more.
+pub fn has_room(table: &[u32], count: usize) -> bool
+    requires { count < 2 ^ 32 }
+    ensures { result ≡ leb (entry_at (count + 1)) (length table.now) }
+{
+    ENTRIES + ENTRY * (count + 1) <= table.len()
+}
+
+// Looks a name up among the first `below` entries of words that are only read: the number of one that has it, if one has. A chain is links in the lent
+// words (no heap), so it is walked by a `while`.
+pub fn find(source: &[u8], table: &[u32], count: usize, below: usize, t: &[u8]) -> Option<usize>
+    requires sound { Sound source.now table.now count }
+    requires below { below ≤ count }
+    ensures { Found source.now table.now below t.now result }
+{
+    let key = key_of(t);
+    let mut link = table[key as usize % HEADS] as usize;
+    while link != 0 {
+        let k = link - 1;
+        if is_entry(source, table, below, k, key, t) {
+            return Some(k);
+        }
+        link = table[ENTRIES + ENTRY * k] as usize;
+    }
+    None
+}
+
+// Whether entry k is one of the first `below` and has the name t, of which this is the key. Where the keys differ, the bytes are not compared.
+fn is_entry(source: &[u8], table: &[u32], below: usize, k: usize, key: u32, t: &[u8]) -> bool
+    requires entry { Entry source.now table.now k }
+    requires room { entry_at (k + 1) ≤ length table.now }
+    requires key { key ≡ key_of t.now }
+    ensures { result ≡ (ltb k below && same t.now (name_at source.now table.now k)) }
+{
+    let at = ENTRIES + ENTRY * k;
+    if table[at + 1] != key {
+        return false;
+    }
+    if k < below {
+        let start = table[at + 2] as usize;
+        let end = table[at + 3] as usize;
+        return are_same(t, &source[start..end]);
+    }
+    false
 }
 
 // Puts the entry with this number. It is the first of its chain, unless its name is a recent one: a name that is repeated does not make a chain long.

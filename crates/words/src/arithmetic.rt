@@ -21,5 +21,5 @@ pub fn minus(x: u32, y: u32) -> u32
 pub fn times(x: u32, y: u32) -> u32
     ensures { result ≡ times_of x y }
 {
-    x.wrapping_mul(y)
+    (u64::from(x) * u64::from(y) % 0x1_0000_0000) as u32
 }

@@ -35,9 +35,10 @@ returns-then-not-has_room c =
     let full = leb-false _ _ (sym c.has_room.ensures ∙ c.if-not-has_room.true) in
     let few = c.loop-p.invariant.noted.few in
     let room = c.loop-p.invariant.room in
-    omega arith
+    let source = c.loop-p.invariant.source in
+    grind arith
 
 pub invariant_of-result : goal.invariant_of-result
 invariant_of-result c =
     let i = c.loop-p.invariant in
-    rw i.source (record { found = all_found i.noted c.loop-p-test.false })
+    rw i.source (record { found = all_found i.noted (omega arith) })
